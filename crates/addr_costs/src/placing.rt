@@ -1,7 +1,7 @@
 //! The places of addresses that stand for their files and lines.
 
 ghost use Rattle.std.specs.Prelude.{◌≡◌, IfOk};
-ghost use Rattle.addr_rows.specs.EventRows.{located, located_arc, located_line};
+ghost use Rattle.addr_rows.specs.EventRows.{located_rows, located_arc, located_line};
 
 use addr_rows::{AddrArc, AddrLine, AddrRows};
 use arc_costs::{ArcRow, LineRow, TableRows};
@@ -48,7 +48,7 @@ pub(crate) fn located_rows(
     rows: &TableRows,
     syms: &SymMap,
 ) -> Result<AddrRows, OutOfMemory>
-    ensures { IfOk result (λ r. r ≡ record { thread = thread; rows = located syms.now rows.now }) }
+    ensures { IfOk result (λ r. r ≡ record { thread = thread; rows = located_rows syms.now rows.now }) }
 {
     let mut lines = Vec::with_capacity(alloc, rows.lines.len())?;
     'lines: for row in &rows.lines {

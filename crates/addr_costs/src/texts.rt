@@ -1,7 +1,7 @@
 //! The texts of the parts of a run over the map that tells code by its addresses.
 
 ghost use Rattle.std.specs.Prelude.{IfOk, ◌≡◌};
-ghost use Rattle.addr_rows.specs.Translated.{CanTranslate, IsOver, translated};
+ghost use Rattle.addr_rows.specs.Translated.{CanTranslate, IsAddressMapOf, translation};
 ghost use Rattle.addr_costs.specs.inner.TextsLaw.{texts_keep_room, texts_last};
 
 use crate::placing::located_rows;
@@ -41,9 +41,9 @@ impl AddrTexts {
 }
 
 impl Watch for AddrTexts {
-    ghost meaning = { translated };
+    ghost meaning = { translation };
 
-    ghost fresh = { IsOver };
+    ghost fresh = { IsAddressMapOf };
 
     ghost has_room = { λ w thread. Unit {0} };
 

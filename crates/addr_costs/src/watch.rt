@@ -27,7 +27,7 @@ const NO_CALLERS: u32 = 0;
 #[derive(Drop)]
 pub struct AddrCosts {
     alloc: Global,
-    over: Option<Maps>,
+    first_syms: Option<Maps>,
     costs: CtxCosts,
 }
 
@@ -41,14 +41,14 @@ struct Maps {
 impl Model for AddrCosts {
     ghost use Rattle.std.specs.Prelude.{◌≡◌, IfSome};
     ghost use Rattle.std.specs.Option.{option_map};
-    ghost use Rattle.addr_rows.specs.States.{State};
+    ghost use Rattle.addr_rows.specs.States.{AddrState};
     ghost use Rattle.sym_map.specs.AddressMap.{address_map};
 
-    ghost Value = { State };
+    ghost Value = { AddrState };
 
-    ghost view = { λ w. record { over = option_map (λ o. o.places) w.over; watched = w.costs } };
+    ghost view = { λ w. record { first_syms = option_map (λ o. o.places) w.first_syms; watched = w.costs } };
 
-    ghost invariant = { λ w. IfSome w.over (λ o. o.told ≡ address_map o.places) };
+    ghost invariant = { λ w. IfSome w.first_syms (λ o. o.told ≡ address_map o.places) };
 }
 
 impl AddrCosts {
@@ -58,7 +58,7 @@ impl AddrCosts {
     {
         AddrCosts {
             alloc,
-            over: None,
+            first_syms: None,
             costs: CtxCosts::new(alloc, NO_CALLERS),
         }
     }
@@ -71,7 +71,7 @@ impl AddrCosts {
         ensures { IfOk result (λ rows. IfSome (thread_rows self.now thread) (λ listed.
             rows ≡ record { thread = thread; rows = listed })) }
     {
-        let Some(over) = &self.over else {
+        let Some(over) = &self.first_syms else {
             unreachable!()
         };
         let rows = self.costs.rows(thread)?;
@@ -83,14 +83,14 @@ impl AddrCosts {
     #[cold]
     #[inline(never)]
     fn begin(&mut self, thread: ThreadNo, pc: u32, syms: &SymMap) -> Result<(), OutOfMemory>
-        requires none { self.old.over ≡ None }
+        requires none { self.old.first_syms ≡ None }
         ensures ok { OnOk result (self.new ≡ after_ready self.old thread pc syms.now) }
         ensures err { OnErr result (self.new ≡ self.old) }
     {
         let places = syms.try_clone(self.alloc)?;
         let told = syms.try_clone(self.alloc)?.by_address();
         self.costs.ready(thread, pc, &told)?;
-        self.over = Some(Maps { places, told });
+        self.first_syms = Some(Maps { places, told });
         Ok(())
     }
 }
@@ -111,7 +111,7 @@ impl Watch for AddrCosts {
     ghost lasts = { address_watch_lasts };
 
     fn ready(&mut self, thread: ThreadNo, pc: u32, syms: &SymMap) -> Result<(), OutOfMemory> {
-        match &self.over {
+        match &self.first_syms {
             Some(over) => self.costs.ready(thread, pc, &over.told),
             None => self.begin(thread, pc, syms),
         }
@@ -125,7 +125,7 @@ impl Watch for AddrCosts {
         woken: &[ThreadNo],
         _syms: &SymMap,
     ) {
-        match &self.over {
+        match &self.first_syms {
             Some(over) => self.costs.seen(event, cost, wait, woken, &over.told),
             None => unreachable!(),
         }

@@ -9,11 +9,11 @@ use Rattle.event_costs.specs.declared.event.Flow.TheVariants.{Call, Jump, Swap, 
 use Rattle.event_costs.specs.declared.numbers.FuncId.{FuncId}
 use Rattle.sym_map.specs.SymbolMap.{SymbolMap, is_entry_at, place_of}
 use Rattle.shadow_stack.specs.Changes.{Change, above_sp, after, beneath_call, change, change_by, cut, down_to}
-use Rattle.shadow_stack.specs.Changes.{drop_groups, gone, is_returned_from, is_under, left_groups, next_func, or_left}
+use Rattle.shadow_stack.specs.Changes.{drop_groups, drop_count, is_returned_from, is_under, remaining_groups, next_func, rest_or_groups}
 use Rattle.shadow_stack.specs.Changes.{push, settle, settle_on, with_pushed}
 use Rattle.shadow_stack.specs.Kinds.{call_of, is_jump, is_left_by, is_level, jump, returns_by}
-use Rattle.shadow_stack.specs.Stacks.{Activation, Group, Stack, groups, has_func, is_of, is_top, members, on_groups}
-use Rattle.shadow_stack.specs.Stacks.{is_rooted, root, top_of, ungrouped}
+use Rattle.shadow_stack.specs.Stacks.{Activation, Group, Stack, groups, has_func, is_activation_of, is_top, members, on_groups}
+use Rattle.shadow_stack.specs.Stacks.{is_rooted, root, top_of, stack_of_groups}
 use Rattle.shadow_stack.specs.Traces.{first_pc, stack_after, stack_of}
 use Rattle.shadow_stack.specs.declared.frame.Kind.{Kind}
 use Rattle.shadow_stack.specs.declared.frame.Kind.TheVariants.{Root}
@@ -34,7 +34,7 @@ abbrev pub shapes : Stack → Stack
 shapes s = map shape s
 
 abbrev pub shaped : Change → Change
-shaped c = record { kept = shapes c.kept; pushed = option_map shape c.pushed }
+shaped c = record { rest = shapes c.rest; pushed = option_map shape c.pushed }
 
 abbrev group_shape : Group → Group
 group_shape g = record { jumps = shapes g.jumps; base = shape g.base }
@@ -67,14 +67,14 @@ groups_shaped (a ∷ s) = ap (on_groups (shape a)) (groups_shaped s) ∙ on_shap
 members_shaped : (g : Group) → members (group_shape g) ≡ shapes (members g)
 members_shaped g = sym (map-append shape g.jumps (g.base ∷ []))
 
-ungrouped_shaped : (gs : List Group) → ungrouped (group_shapes gs) ≡ shapes (ungrouped gs)
+ungrouped_shaped : (gs : List Group) → stack_of_groups (group_shapes gs) ≡ shapes (stack_of_groups gs)
 ungrouped_shaped [] = refl
 ungrouped_shaped (g ∷ gs) =
-    (λ i. members_shaped g i ++ ungrouped_shaped gs i) ∙ sym (map-append shape (members g) (ungrouped gs))
+    (λ i. members_shaped g i ++ ungrouped_shaped gs i) ∙ sym (map-append shape (members g) (stack_of_groups gs))
 
 has_shaped : (f : FuncId) (s : Stack) → has_func f (shapes s) ≡ has_func f s
 has_shaped f [] = refl
-has_shaped f (a ∷ s) = ap (λ b. is_of f a || b) (has_shaped f s)
+has_shaped f (a ∷ s) = ap (λ b. is_activation_of f a || b) (has_shaped f s)
 
 top_shaped : (f : FuncId) (s : Stack) → is_top f (shapes s) ≡ is_top f s
 top_shaped f [] = refl
@@ -82,7 +82,7 @@ top_shaped f (a ∷ s) = refl
 
 down_shaped : (f : FuncId) (s : Stack) → down_to f (shapes s) ≡ option_map shapes (down_to f s)
 down_shaped f [] = refl
-down_shaped f (a ∷ s) = by (is_of f a) (is_jump a.kind) (down_shaped f s)
+down_shaped f (a ∷ s) = by (is_activation_of f a) (is_jump a.kind) (down_shaped f s)
   where
     by : (b c : Bool) → down_to f (shapes s) ≡ option_map shapes (down_to f s)
         → (if b then Some (shapes (a ∷ s)) else (if c then down_to f (shapes s) else None))
@@ -117,8 +117,8 @@ module _ (m n : SymbolMap) (same : SameCode m n) (e : Event) where
       let entry = sym (same.entries e.done.next) in
       let has = ap (λ f. has_func f (members (group_shape g))) next_same
       ∙ ap (has_func (next_func m e)) (members_shaped g) ∙ has_shaped (next_func m e) (members g) in
-      let top = ap (λ f. is_top f (ungrouped (group_shapes gs))) next_same
-      ∙ ap (is_top (next_func m e)) (ungrouped_shaped gs) ∙ top_shaped (next_func m e) (ungrouped gs) in
+      let top = ap (λ f. is_top f (stack_of_groups (group_shapes gs))) next_same
+      ∙ ap (is_top (next_func m e)) (ungrouped_shaped gs) ∙ top_shaped (next_func m e) (stack_of_groups gs) in
       λ i. is_level e g.base.kind && not (entry i) && not (has i) && top i
 
   drop_shaped : (t u : List Group → Bool) → ((gs : List Group) → t (group_shapes gs) ≡ u gs) → (gs : List Group)
@@ -139,7 +139,7 @@ module _ (m n : SymbolMap) (same : SameCode m n) (e : Event) where
       ap (drop_groups (is_returned_from n e)) (drop_shaped (is_under e) (is_under e) under_shaped gs)
       ∙ drop_shaped (is_returned_from n e) (is_returned_from m e) returned_shaped (drop_groups (is_under e) gs)
 
-  left_shaped : (gs : List Group) → left_groups n e (group_shapes gs) ≡ group_shapes (left_groups m e gs)
+  left_shaped : (gs : List Group) → remaining_groups n e (group_shapes gs) ≡ group_shapes (remaining_groups m e gs)
   left_shaped [] = refl
   left_shaped (g ∷ gs) = by (returns_by e g.base.kind)
     where
@@ -149,24 +149,24 @@ module _ (m n : SymbolMap) (same : SameCode m n) (e : Event) where
       by false = above_shaped (g ∷ gs)
 
   or_left_shaped : (s : Stack) (o : Option Stack)
-      → or_left n e (shapes s) (option_map shapes o) ≡ shapes (or_left m e s o)
+      → rest_or_groups n e (shapes s) (option_map shapes o) ≡ shapes (rest_or_groups m e s o)
   or_left_shaped s (Some rest) = refl
   or_left_shaped s None =
-      ap (λ gs. ungrouped (left_groups n e gs)) (groups_shaped s) ∙ ap ungrouped (left_shaped (groups s))
-      ∙ ungrouped_shaped (left_groups m e (groups s))
+      ap (λ gs. stack_of_groups (remaining_groups n e gs)) (groups_shaped s) ∙ ap stack_of_groups (left_shaped (groups s))
+      ∙ ungrouped_shaped (remaining_groups m e (groups s))
 
   cut_shaped : (s : Stack) → cut n e (shapes s) ≡ shapes (cut m e s)
-  cut_shaped s = ap (or_left n e (shapes s)) (beneath_shaped s) ∙ or_left_shaped s (beneath_call e s)
+  cut_shaped s = ap (rest_or_groups n e (shapes s)) (beneath_shaped s) ∙ or_left_shaped s (beneath_call e s)
 
   push_shaped : (kind : Kind) (s : Stack) → shaped (push n e kind (shapes s)) ≡ shaped (push m e kind s)
   push_shaped kind s = λ i. record {
-    kept = again s i;
+    rest = again s i;
     pushed = Some (record { func = next_same i; kind = kind; arc = None });
   }
 
   settle_on_shaped : (s : Stack) (o : Option Stack)
       → shaped (settle_on n e (shapes s) (option_map shapes o)) ≡ shaped (settle_on m e s o)
-  settle_on_shaped s (Some rest) = λ i. record { kept = again rest i; pushed = None }
+  settle_on_shaped s (Some rest) = λ i. record { rest = again rest i; pushed = None }
   settle_on_shaped s None = push_shaped jump s
 
   settle_shaped : (s : Stack) → shaped (settle n e (shapes s)) ≡ shaped (settle m e s)
@@ -186,8 +186,8 @@ module _ (m n : SymbolMap) (same : SameCode m n) (e : Event) where
   change_shaped s = by e.ends
     where
       by : (b : Bool)
-          → shaped (if b then record { kept = []; pushed = None } else change_by n e (shapes s) e.done.flow)
-          ≡ shaped (if b then record { kept = []; pushed = None } else change_by m e s e.done.flow)
+          → shaped (if b then record { rest = []; pushed = None } else change_by n e (shapes s) e.done.flow)
+          ≡ shaped (if b then record { rest = []; pushed = None } else change_by m e s e.done.flow)
       by true = refl
       by false = flow_shaped s e.done.flow
 
@@ -204,11 +204,11 @@ module _ (m n : SymbolMap) (same : SameCode m n) where
   alike_change e s r alike =
       sym (change_shaped m n same e s) ∙ ap (λ t. shaped (change n e t)) alike ∙ change_shaped n n (itself n) e r
 
-  pub alike_gone : (e : Event) (s r : Stack) → shapes s ≡ shapes r → gone m e s ≡ gone n e r
+  pub alike_gone : (e : Event) (s r : Stack) → shapes s ≡ shapes r → drop_count m e s ≡ drop_count n e r
   alike_gone e s r alike =
       let all = alike_length s r alike in
-      let kept = alike_length (change m e s).kept (change n e r).kept
-      (ap (λ (c : Change). c.kept) (alike_change e s r alike)) in
+      let kept = alike_length (change m e s).rest (change n e r).rest
+      (ap (λ (c : Change). c.rest) (alike_change e s r alike)) in
       λ i. all i - kept i
 
   pushed_shaped : (p : Option Activation) (s : Stack)
@@ -218,9 +218,9 @@ module _ (m n : SymbolMap) (same : SameCode m n) where
 
   pub alike_after : (e : Event) (s r : Stack) → shapes s ≡ shapes r → shapes (after m s e) ≡ shapes (after n r e)
   alike_after e s r alike =
-      pushed_shaped (change m e s).pushed (change m e s).kept
-      ∙ ap (λ (c : Change). with_pushed c.pushed c.kept) (alike_change e s r alike)
-      ∙ sym (pushed_shaped (change n e r).pushed (change n e r).kept)
+      pushed_shaped (change m e s).pushed (change m e s).rest
+      ∙ ap (λ (c : Change). with_pushed c.pushed c.rest) (alike_change e s r alike)
+      ∙ sym (pushed_shaped (change n e r).pushed (change n e r).rest)
 
   pub alike_root : (pc : ℕ) → shapes (root m pc) ≡ shapes (root n pc)
   alike_root pc = ap (λ f. record { func = f; kind = Root; arc = None } ∷ []) (same.funcs pc)

@@ -19,9 +19,9 @@ use Rattle.event_costs.specs.declared.event.Event.{Event}
 use Rattle.event_costs.specs.Keys.{ArcKey, Place}
 use Rattle.event_costs.specs.declared.numbers.FuncId.{FuncId}
 use Rattle.sym_map.specs.SymbolMap.{SymbolMap, place_of}
-use Rattle.shadow_stack.specs.Changes.{Change, after, arc_from, change, gone, next_func, with_pushed}
+use Rattle.shadow_stack.specs.Changes.{Change, after, arc_from, change, drop_count, next_func, with_pushed}
 use Rattle.shadow_stack.specs.Stacks.{Activation, Stack}
-use Rattle.shadow_stack.specs.Traces.{Seen}
+use Rattle.shadow_stack.specs.Traces.{EventOnStack}
 use Rattle.arc_costs.specs.Arcs.{arc_of, arc_sum, call_of_arc, call_sum, cost_of_arc}
 use Rattle.arc_costs.specs.Contents.{Listed}
 use Rattle.arc_costs.specs.Lines.{line, line_sum, place_of as key_of}
@@ -86,13 +86,13 @@ abbrev call_by : Option ArcKey → List ArcRow
 call_by None = []
 call_by (Some arc) = call_of_arc arc ∷ []
 
-abbrev line_added : SymbolMap → Seen → LineRow
+abbrev line_added : SymbolMap → EventOnStack → LineRow
 line_added m x = line (place_of m x.event.done.pc) x.cost
 
-abbrev arcs_added : SymbolMap → Seen → List ArcRow
+abbrev arcs_added : SymbolMap → EventOnStack → List ArcRow
 arcs_added m x = costs_under x.cost (froms_on x.stack) ++ call_by (from_of (change m x.event x.stack).pushed)
 
-abbrev pub added : SymbolMap → List Seen → Listed
+abbrev pub added : SymbolMap → List EventOnStack → Listed
 added m xs = record { lines = map (line_added m) xs; arcs = flat_map (arcs_added m) xs }
 
 no_share : (b : Bool) → ◌≡◌ {A = ℕ} (if b then 0 else 0) 0
@@ -173,9 +173,9 @@ call_count k (Some a) = by a.arc
 
 -- the arc of a frame that is pushed
 from_is : (m : SymbolMap) (e : Event) (s : Stack) → from_of (change m e s).pushed
-    ≡ (if is_some (change m e s).pushed then arc_from (place_of m e.done.pc) (next_func m e) (change m e s).kept else None)
+    ≡ (if is_some (change m e s).pushed then arc_from (place_of m e.done.pc) (next_func m e) (change m e s).rest else None)
 from_is m e s = elim (change_push m e s) as (λ _. from_of (change m e s).pushed
-    ≡ (if is_some (change m e s).pushed then arc_from (place_of m e.done.pc) (next_func m e) (change m e s).kept
+    ≡ (if is_some (change m e s).pushed then arc_from (place_of m e.done.pc) (next_func m e) (change m e s).rest
     else None)) [
       | inl none ↦ subst By (sym none) refl
       | inr p ↦ subst By (sym p.1) refl
@@ -183,15 +183,15 @@ from_is m e s = elim (change_push m e s) as (λ _. from_of (change m e s).pushed
   where
     By : Option Activation → Type 0
     By o = from_of o
-        ≡ (if is_some o then arc_from (place_of m e.done.pc) (next_func m e) (change m e s).kept else None)
+        ≡ (if is_some o then arc_from (place_of m e.done.pc) (next_func m e) (change m e s).rest else None)
 
 -- the sums of events are those of the rows that they add
 module _ (m : SymbolMap) where
-  added_lines : (kind : ℕ) (p : Place) (xs : List Seen) → line_sum kind p (added m xs).lines ≡ self_cost m kind p xs
+  added_lines : (kind : ℕ) (p : Place) (xs : List EventOnStack) → line_sum kind p (added m xs).lines ≡ self_cost m kind p xs
   added_lines kind p xs =
       sums_map (λ (r : LineRow). if same_place p r.place then get_or r.cost kind 0 else 0) (line_added m) xs
 
-  added_costs : (kind : ℕ) (k : ArcKey) (xs : List Seen) → arc_sum kind k (added m xs).arcs ≡ arc_cost kind k xs
+  added_costs : (kind : ℕ) (k : ArcKey) (xs : List EventOnStack) → arc_sum kind k (added m xs).arcs ≡ arc_cost kind k xs
   added_costs kind k [] = refl
   added_costs kind k (x ∷ xs) =
       let parts = arc_sum-append kind k (arcs_added m x) (added m xs).arcs in
@@ -199,11 +199,11 @@ module _ (m : SymbolMap) where
       (call_by (from_of (change m x.event x.stack).pushed)) in
       let each = under_costs x.cost k kind x.stack in
       let none = call_costs kind k (from_of (change m x.event x.stack).pushed) in
-      let more = sum_by-cons (λ (y : Seen). get_or y.cost kind 0 * entered_by k y.stack) x xs in
+      let more = sum_by-cons (λ (y : EventOnStack). get_or y.cost kind 0 * entered_by k y.stack) x xs in
       let rest = added_costs kind k xs in
       omega (arith, parts, both, each, none, more, rest)
 
-  added_calls : (k : ArcKey) (xs : List Seen) → call_sum k (added m xs).arcs ≡ arc_calls m k xs
+  added_calls : (k : ArcKey) (xs : List EventOnStack) → call_sum k (added m xs).arcs ≡ arc_calls m k xs
   added_calls k [] = refl
   added_calls k (x ∷ xs) =
       let parts = call_sum-append k (arcs_added m x) (added m xs).arcs in
@@ -211,7 +211,7 @@ module _ (m : SymbolMap) where
       (call_by (from_of (change m x.event x.stack).pushed)) in
       let none = under_calls x.cost k (froms_on x.stack) in
       let one = call_count k (change m x.event x.stack).pushed in
-      let more = sum_by-cons (λ (y : Seen). pushes k (change m y.event y.stack).pushed) x xs in
+      let more = sum_by-cons (λ (y : EventOnStack). pushes k (change m y.event y.stack).pushed) x xs in
       let rest = added_calls k xs in
       omega (arith, parts, both, none, one, more, rest)
 
@@ -223,7 +223,7 @@ pub record AreLocated (m : SymbolMap) (r s : Stack) : Type 0 where
   pub arcs : map (option_map (located_key m)) (froms_on r) ≡ froms_on s
 
 -- An event with its stack by the map of addresses, and with that by the map itself; its pc is that of its line.
-pub record IsLocated (m : SymbolMap) (y x : Seen) : Type 0 where
+pub record IsLocated (m : SymbolMap) (y x : EventOnStack) : Type 0 where
   pub event : y.event ≡ x.event
   pub cost : y.cost ≡ x.cost
   pub stack : AreLocated m y.stack x.stack
@@ -276,16 +276,16 @@ module _ (m : SymbolMap) where
   pushed_arc e small r s alike =
       ap (option_map (located_key m)) (from_is am e r)
       ∙ (λ i. option_map (located_key m) (if some_same e r s alike i
-      then arc_from (place_of am e.done.pc) (next_func am e) (change am e r).kept else None))
+      then arc_from (place_of am e.done.pc) (next_func am e) (change am e r).rest else None))
       ∙ by (is_some (change m e s).pushed)
       ∙ sym (from_is m e s)
     where
       by : (b : Bool)
           → option_map (located_key m) (if b then arc_from (place_of am e.done.pc) (next_func am e)
-          (change am e r).kept else None)
-          ≡ (if b then arc_from (place_of m e.done.pc) (next_func m e) (change m e s).kept else None)
-      by true = entered_arc e small (change am e r).kept (change m e s).kept
-          (ap (λ (c : Change). c.kept) (alike_change m am (address_code m) e s r alike))
+          (change am e r).rest else None)
+          ≡ (if b then arc_from (place_of m e.done.pc) (next_func m e) (change m e s).rest else None)
+      by true = entered_arc e small (change am e r).rest (change m e s).rest
+          (ap (λ (c : Change). c.rest) (alike_change m am (address_code m) e s r alike))
       by false = refl
 
   -- what an event leaves
@@ -297,29 +297,29 @@ module _ (m : SymbolMap) where
         (some_same e r s at.alike);
   }
     where
-      gone_same : gone m e s ≡ gone am e r
+      gone_same : drop_count m e s ≡ drop_count am e r
       gone_same = alike_gone m am (address_code m) e s r at.alike
 
-      kept_arcs : map (option_map (located_key m)) (froms_on (change am e r).kept) ≡ froms_on (change m e s).kept
+      kept_arcs : map (option_map (located_key m)) (froms_on (change am e r).rest) ≡ froms_on (change m e s).rest
       kept_arcs =
           ap (λ (t : Stack). map (option_map (located_key m)) (froms_on t)) (sym (kept_stack am e r))
-          ∙ ap (map (option_map (located_key m))) (drop_map (λ (a : Activation). a.arc) (gone am e r) r)
-          ∙ drop_map (option_map (located_key m)) (gone am e r) (froms_on r)
+          ∙ ap (map (option_map (located_key m))) (drop_map (λ (a : Activation). a.arc) (drop_count am e r) r)
+          ∙ drop_map (option_map (located_key m)) (drop_count am e r) (froms_on r)
           ∙ (λ i. drop (sym gone_same i) (at.arcs i))
-          ∙ sym (drop_map (λ (a : Activation). a.arc) (gone m e s) s)
+          ∙ sym (drop_map (λ (a : Activation). a.arc) (drop_count m e s) s)
           ∙ ap froms_on (kept_stack m e s)
 
       with_arcs : (q p : Option Activation) → option_map (located_key m) (from_of q) ≡ from_of p
           → is_some q ≡ is_some p
-          → map (option_map (located_key m)) (froms_on (with_pushed q (change am e r).kept))
-          ≡ froms_on (with_pushed p (change m e s).kept)
+          → map (option_map (located_key m)) (froms_on (with_pushed q (change am e r).rest))
+          ≡ froms_on (with_pushed p (change m e s).rest)
       with_arcs None None arc some = kept_arcs
       with_arcs (Some b) (Some a) arc some = λ i. arc i ∷ kept_arcs i
       with_arcs None (Some a) arc some = absurd (true_false (sym some))
       with_arcs (Some b) None arc some = absurd (true_false some)
 
   -- what it adds
-  line_located : (y x : Seen) → IsLocated m y x → lined m (line_added am y) ≡ line_added m x
+  line_located : (y x : EventOnStack) → IsLocated m y x → lined m (line_added am y) ≡ line_added m x
   line_located y x at =
       (λ i. record { place = place_of m (place_of am (at.event i).done.pc).line; cost = at.cost i })
       ∙ ap (λ (p : Place). line p x.cost) (place_back x.event.done.pc at.small)
@@ -335,7 +335,7 @@ module _ (m : SymbolMap) where
   call_located None = refl
   call_located (Some k) = refl
 
-  arcs_located : (y x : Seen) → IsLocated m y x → map (arced m) (arcs_added am y) ≡ arcs_added m x
+  arcs_located : (y x : EventOnStack) → IsLocated m y x → map (arced m) (arcs_added am y) ≡ arcs_added m x
   arcs_located y x at =
       map-append (arced m) (costs_under y.cost (froms_on y.stack))
       (call_by (from_of (change am y.event y.stack).pushed))
@@ -350,19 +350,19 @@ module _ (m : SymbolMap) where
           ∙ pushed_arc x.event at.small y.stack x.stack at.stack.alike
 
   -- Events by the map of addresses, and by the map itself, one by one.
-  abbrev pub AllLocated : List Seen → List Seen → Type 0
+  abbrev pub AllLocated : List EventOnStack → List EventOnStack → Type 0
   AllLocated [] [] = Unit {0}
   AllLocated [] (x ∷ xs) = ⊥
   AllLocated (y ∷ ys) [] = ⊥
   AllLocated (y ∷ ys) (x ∷ xs) = IsLocated m y x × AllLocated ys xs
 
-  lines_located : (ys xs : List Seen) → AllLocated ys xs → map (lined m) (added am ys).lines ≡ (added m xs).lines
+  lines_located : (ys xs : List EventOnStack) → AllLocated ys xs → map (lined m) (added am ys).lines ≡ (added m xs).lines
   lines_located [] [] all = refl
   lines_located [] (x ∷ xs) all = absurd all
   lines_located (y ∷ ys) [] all = absurd all
   lines_located (y ∷ ys) (x ∷ xs) all = λ i. line_located y x all.0 i ∷ lines_located ys xs all.1 i
 
-  all_arcs_located : (ys xs : List Seen) → AllLocated ys xs → map (arced m) (added am ys).arcs ≡ (added m xs).arcs
+  all_arcs_located : (ys xs : List EventOnStack) → AllLocated ys xs → map (arced m) (added am ys).arcs ≡ (added m xs).arcs
   all_arcs_located [] [] all = refl
   all_arcs_located [] (x ∷ xs) all = absurd all
   all_arcs_located (y ∷ ys) [] all = absurd all
@@ -370,7 +370,7 @@ module _ (m : SymbolMap) where
       map-append (arced m) (arcs_added am y) (added am ys).arcs
       ∙ (λ i. arcs_located y x all.0 i ++ all_arcs_located ys xs all.1 i)
 
-  all_whole : (ys xs : List Seen) → AllLocated ys xs → AllByRecursion (λ (y : Seen). IsWhole y.cost) ys
+  all_whole : (ys xs : List EventOnStack) → AllLocated ys xs → AllByRecursion (λ (y : EventOnStack). IsWhole y.cost) ys
   all_whole [] xs all = tt
   all_whole (y ∷ ys) [] all = absurd all
   all_whole (y ∷ ys) (x ∷ xs) all = (subst IsWhole (sym all.0.cost) all.0.whole, all_whole ys xs all.1)
@@ -416,12 +416,12 @@ module _ {Row K P : Type 0} (key : Row → K) (same : K → K → Bool) (R : K �
       ∙ regrouped ks rises qs
       (λ r there. inside (key r) (in_right (map key rs) (map key qs) (key r) (rise.in-map key qs r there)))
 
-module _ (m : SymbolMap) (ys xs : List Seen) (all : AllLocated m ys xs) where
+module _ (m : SymbolMap) (ys xs : List EventOnStack) (all : AllLocated m ys xs) where
   abbrev n : SymbolMap
   n = address_map m
 
   fine : AreRowsOf n ys (rows_of n ys)
-  fine = all_sum_up n ys (All-from_recursion (λ (y : Seen). IsWhole y.cost) ys (all_whole m ys xs all))
+  fine = all_sum_up n ys (All-from_recursion (λ (y : EventOnStack). IsWhole y.cost) ys (all_whole m ys xs all))
 
   pub listed_lines : (kind : ℕ) (p : Place) → line_sum kind p (plain (addr_rows_of m ys)).lines ≡ self_cost m kind p xs
   unfolding addr_rows_of

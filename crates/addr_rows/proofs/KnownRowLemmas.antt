@@ -7,7 +7,7 @@ use Rattle.event_costs.specs.Keys.{ArcKey}
 use Rattle.sym_map.specs.SymbolMap.{IsFunc, IsSound, SymbolMap}
 use Rattle.shadow_stack.specs.Changes.{change}
 use Rattle.shadow_stack.specs.Stacks.{Activation, Stack}
-use Rattle.shadow_stack.specs.Traces.{Seen}
+use Rattle.shadow_stack.specs.Traces.{EventOnStack}
 use Rattle.arc_costs.specs.Arcs.{is_some_arc}
 use Rattle.event_costs.specs.Order.{arc_order}
 use Rattle.arc_costs.specs.Rows.{ArcRow}
@@ -21,13 +21,13 @@ use Rattle.ctx_rows.proofs.HoldsLemmas.{IsReached}
 use Rattle.sym_map.specs.AddressMap.{address_map}
 use Rattle.cg_format.specs.Part as part
 use Rattle.arc_costs.specs.Contents.{Listed}
-use Rattle.addr_rows.specs.EventRows.{addr_rows_of, located, located_arc, located_line}
+use Rattle.addr_rows.specs.EventRows.{addr_rows_of, located_rows, located_arc, located_line}
 use Rattle.addr_rows.specs.Known.{AreKnown, IsKnownArc, IsKnownLine}
 use Rattle.addr_rows.specs.declared.rows.AddrArc.{AddrArc}
 use Rattle.addr_rows.specs.declared.rows.AddrLine.{AddrLine}
 use Rattle.addr_rows.proofs.AddressMapLemmas.{address_knows, same_func}
 
-module _ (m : SymbolMap) (sound : IsSound m) (xs : List Seen)
+module _ (m : SymbolMap) (sound : IsSound m) (xs : List EventOnStack)
     (reached : AllByRecursion (IsReached (address_map m)) xs) where
   abbrev n : SymbolMap
   n = address_map m
@@ -40,7 +40,7 @@ module _ (m : SymbolMap) (sound : IsSound m) (xs : List Seen)
   in_frames s all k there =
       let a = from_flat (λ (b : Activation). option_to_list b.arc) s k there in (all a.0 a.1).arc k a.2
 
-  at_event : (x : Seen) → IsReached n x → (k : ArcKey) → IsIn (arcs_at n x) k → IsKnownKey k
+  at_event : (x : EventOnStack) → IsReached n x → (k : ArcKey) → IsIn (arcs_at n x) k → IsKnownKey k
   at_event x is k there =
       let stack : plain.AreKnownIn n (address_knows m sound) x.stack
       = subst (plain.AreKnownIn n (address_knows m sound)) (sym is.is)
@@ -92,7 +92,7 @@ module _ (m : SymbolMap) (sound : IsSound m) (xs : List Seen)
 
 -- rows of a run over the map that tells code by its addresses
 pub located_known : (m : SymbolMap) → IsSound m → (rows : Listed) → part.AreKnown (address_map m) rows
-    → AreKnown m (located m rows)
+    → AreKnown m (located_rows m rows)
 located_known m sound rows known = record {
   lines = All-from_recursion (IsKnownLine m) (map (located_line m) rows.lines)
       (all_of (IsKnownLine m) (map (located_line m) rows.lines) line);

@@ -10,16 +10,16 @@ use Rattle.event_costs.specs.declared.numbers.ThreadNo.{ThreadNo}
 use Rattle.sym_map.specs.AddressMap.{address_map}
 use Rattle.sym_map.specs.SymbolMap.{SymbolMap}
 use Rattle.shadow_stack.specs.Stacks.{most_frames}
-use Rattle.shadow_stack.specs.Traces.{Seen, stack_of}
+use Rattle.shadow_stack.specs.Traces.{EventOnStack, stack_of}
 use Rattle.arc_costs.specs.Contents.{Listed}
 use Rattle.cg_format.specs.Part.{IsKnownArc, IsKnownLine}
 use Rattle.part_dump.specs.Calls.{Call, Readies, Sees, Writes}
-use Rattle.part_dump.specs.Steps.{Step, event_of, live, own, own_events, thread_of}
-use Rattle.part_dump.specs.Watched.{FitAll, Fits, Follows, Watched, is_woken, last_of, most_steps}
-use Rattle.part_dump.specs.Watched.{readied_after, readied_by, steps_in, waits, waits_after}
+use Rattle.part_dump.specs.Steps.{Step, event_of, live, steps_of_thread, events_of_thread, thread_of}
+use Rattle.part_dump.specs.Watched.{FitAll, Fits, Follows, AreWatched, is_woken, last_of, most_steps}
+use Rattle.part_dump.specs.Watched.{ready_pc_after, ready_pc_by, steps_in, waits, waits_after}
 use Rattle.ctx_rows.specs.Since as contexts
 use Rattle.ctx_rows.proofs.HoldsLemmas.{steps_more}
-use Rattle.addr_rows.specs.Stacked.{all_stacked, since_after, since_by, stacked, steps_by}
+use Rattle.addr_rows.specs.Stacked.{with_stacks_of, since_after, since_by, with_stack_of, steps_by}
 use Rattle.addr_rows.proofs.AddressMapLemmas.{address_code, address_names}
 use Rattle.addr_rows.proofs.RestackLemmas.{length_stacked, live_stacked, own_events_stacked}
 
@@ -30,7 +30,7 @@ no_rows = record { lines = []; arcs = [] }
 -- a call that follows these steps, with the stack that a map makes of its step
 abbrev pub recall : SymbolMap → List Step → Call → Call
 recall n past (Readies thread pc) = Readies thread pc
-recall n past (Sees x) = Sees (stacked n past x)
+recall n past (Sees x) = Sees (with_stack_of n past x)
 recall n past (Writes head rows) = Writes head no_rows
 
 abbrev pub recalled : SymbolMap → List Step → List Call → List Call
@@ -78,10 +78,10 @@ module _ (n : SymbolMap) where
       (recalled_append (steps_by c past) cs ds
       ∙ ap (λ es. recalled n (steps_by c past) cs ++ recalled n es ds) (steps_first past c cs))
 
-  pub steps_recalled : (past : List Step) (cs : List Call) → steps_in (recalled n past cs) ≡ all_stacked n past (steps_in cs)
+  pub steps_recalled : (past : List Step) (cs : List Call) → steps_in (recalled n past cs) ≡ with_stacks_of n past (steps_in cs)
   steps_recalled past [] = refl
   steps_recalled past (Readies thread pc ∷ cs) = steps_recalled past cs
-  steps_recalled past (Sees x ∷ cs) = ap (λ xs. stacked n past x ∷ xs) (steps_recalled (past ++ x ∷ []) cs)
+  steps_recalled past (Sees x ∷ cs) = ap (λ xs. with_stack_of n past x ∷ xs) (steps_recalled (past ++ x ∷ []) cs)
   steps_recalled past (Writes head rows ∷ cs) = steps_recalled past cs
 
   last_recalled : (past : List Step) (cs : List Call) (thread : ThreadNo) (pc : ℕ)
@@ -93,21 +93,21 @@ module _ (n : SymbolMap) where
   last_recalled past (c ∷ (d ∷ cs)) thread pc is = last_recalled (steps_by c past) (d ∷ cs) thread pc is
 
   readied_recalled : (thread : ℕ) (before : Option ℕ) (past : List Step) (cs : List Call)
-      → readied_after thread before (recalled n past cs) ≡ readied_after thread before cs
+      → ready_pc_after thread before (recalled n past cs) ≡ ready_pc_after thread before cs
   readied_recalled thread before past [] = refl
   readied_recalled thread before past (Readies t pc ∷ cs) =
-      readied_recalled thread (readied_by thread (Readies t pc) before) past cs
+      readied_recalled thread (ready_pc_by thread (Readies t pc) before) past cs
   readied_recalled thread before past (Sees x ∷ cs) = readied_recalled thread before (past ++ x ∷ []) cs
   readied_recalled thread before past (Writes head rows ∷ cs) = readied_recalled thread before past cs
 
   waits_stacked : (thread : ℕ) (before : Bool) (past xs : List Step)
-      → waits_after thread before (all_stacked n past xs) ≡ waits_after thread before xs
+      → waits_after thread before (with_stacks_of n past xs) ≡ waits_after thread before xs
   waits_stacked thread before past [] = refl
   waits_stacked thread before past (x ∷ xs) =
       waits_stacked thread (if thread_of x == thread then is_some x.wait else (before && not (is_woken thread x)))
       (past ++ x ∷ []) xs
 
-  pub since_recalled : (thread : ℕ) (before : List Seen) (past : List Step) (cs : List Call)
+  pub since_recalled : (thread : ℕ) (before : List EventOnStack) (past : List Step) (cs : List Call)
       → contexts.since_after thread before (recalled n past cs) ≡ since_after n thread past before cs
   since_recalled thread before past [] = refl
   since_recalled thread before past (Readies t pc ∷ cs) = since_recalled thread before past cs
@@ -126,17 +126,17 @@ module _ (m : SymbolMap) where
     abbrev told : List Call
     told = recalled n [] earlier
 
-    told_steps : steps_in told ≡ all_stacked n [] (steps_in earlier)
+    told_steps : steps_in told ≡ with_stacks_of n [] (steps_in earlier)
     told_steps = steps_recalled n [] earlier
 
-    told_events : (thread : ℕ) → own_events thread (steps_in told) ≡ own_events thread (steps_in earlier)
+    told_events : (thread : ℕ) → events_of_thread thread (steps_in told) ≡ events_of_thread thread (steps_in earlier)
     told_events thread =
-        ap (own_events thread) told_steps ∙ own_events_stacked n thread [] (steps_in earlier)
+        ap (events_of_thread thread) told_steps ∙ own_events_stacked n thread [] (steps_in earlier)
 
-    pub told_length : (thread : ℕ) → length (own thread (steps_in told)) ≡ length (own thread (steps_in earlier))
+    pub told_length : (thread : ℕ) → length (steps_of_thread thread (steps_in told)) ≡ length (steps_of_thread thread (steps_in earlier))
     told_length thread =
-        sym (length-map (own thread (steps_in told)) event_of) ∙ ap (λ (es : List Event). length es) (told_events thread)
-        ∙ length-map (own thread (steps_in earlier)) event_of
+        sym (length-map (steps_of_thread thread (steps_in told)) event_of) ∙ ap (λ (es : List Event). length es) (told_events thread)
+        ∙ length-map (steps_of_thread thread (steps_in earlier)) event_of
 
     told_waits : (thread : ℕ) → waits thread (steps_in told) ≡ waits thread (steps_in earlier)
     told_waits thread = ap (waits thread) told_steps ∙ waits_stacked n thread false [] (steps_in earlier)
@@ -144,16 +144,16 @@ module _ (m : SymbolMap) where
     pub fits : (c : Call) → Fits m earlier c → Fits n told (recall n (steps_in earlier) c)
     fits (Readies thread pc) fit = λ none.
         subst (λ (o : Option ℕ). IfSome o (λ before. before ≡ pc)) (sym (readied_recalled n thread.0 None [] earlier))
-        (fit (no_length (own thread.0 (steps_in earlier))
+        (fit (no_length (steps_of_thread thread.0 (steps_in earlier))
         (sym (told_length thread.0) ∙ ap (λ (xs : List Step). length xs) none)))
     fits (Sees x) fit =
         let t = thread_of x in
         let e = event_of x in (
           last_recalled n [] earlier e.thread e.done.pc fit.0,
           record {
-            follows = from_events (own t (steps_in told)) e
+            follows = from_events (steps_of_thread t (steps_in told)) e
                 (subst (λ (es : List Event). FollowsLast (last_of es) e) (sym (told_events t))
-                (to_events (own t (steps_in earlier)) e fit.1.follows));
+                (to_events (steps_of_thread t (steps_in earlier)) e fit.1.follows));
             whole = fit.1.whole;
             ones = fit.1.ones;
             room = subst (λ k. k < most_steps)
@@ -187,5 +187,5 @@ module _ (m : SymbolMap) where
         (steps_last earlier c) (fit_all (earlier ++ c ∷ []) cs fit.1)),
   )
 
-  pub watched_recalled : (cs : List Call) → Watched m cs → Watched n (recalled n [] cs)
+  pub watched_recalled : (cs : List Call) → AreWatched m cs → AreWatched n (recalled n [] cs)
   watched_recalled cs watched = fit_all [] cs watched

@@ -17,10 +17,10 @@ use Rattle.event_costs.specs.Keys.{ArcKey}
 use Rattle.event_costs.specs.declared.numbers.FuncId.{FuncId}
 use Rattle.event_costs.specs.Keys.{Place}
 use Rattle.sym_map.specs.SymbolMap.{SymbolMap}
-use Rattle.shadow_stack.specs.Changes.{change, entered}
+use Rattle.shadow_stack.specs.Changes.{change, new_activation}
 use Rattle.shadow_stack.specs.Kinds.{is_root}
 use Rattle.shadow_stack.specs.Stacks.{Activation, Stack, top_of}
-use Rattle.shadow_stack.specs.Traces.{Seen}
+use Rattle.shadow_stack.specs.Traces.{EventOnStack}
 use Rattle.shadow_stack.specs.declared.frame.Kind.{Kind}
 use Rattle.arc_costs.specs.Arcs as arcs
 use Rattle.arc_costs.specs.Contents.{Listed}
@@ -173,7 +173,7 @@ named a s o = option_map (λ (arc : ArcKey). record {
   callee = context 0 (a ∷ s);
 }) o
 
-entered_from : (n : SymbolMap) (e : Event) (kind : Kind) (s : Stack) → From (entered n e kind s) s (entered n e kind s).arc
+entered_from : (n : SymbolMap) (e : Event) (kind : Kind) (s : Stack) → From (new_activation n e kind s) s (new_activation n e kind s).arc
 entered_from n e kind [] = tt
 entered_from n e kind (b ∷ s) = (refl, refl)
 
@@ -200,23 +200,23 @@ pushed_single : (n : SymbolMap) (e : Event) (s : Stack) (k : CtxArcKey)
 pushed_single n e s k there = by (change_push n e s)
   where
     by : ((change n e s).pushed ≡ None)
-        ⊎ ((kind : Kind) × ((change n e s).pushed ≡ Some (entered n e kind (change n e s).kept)) × (is_root kind ≡ false))
+        ⊎ ((kind : Kind) × ((change n e s).pushed ≡ Some (new_activation n e kind (change n e s).rest)) × (is_root kind ≡ false))
         → IsSingleArc k
     by (inl none) =
         absurd (no_one (subst (λ (o : Option Activation). IsIn (option_to_list
-        (ctx_arc_of 0 o (change n e s).kept)) k) none there))
+        (ctx_arc_of 0 o (change n e s).rest)) k) none there))
       where
         no_one : IsIn {A = CtxArcKey} [] k → ⊥
         no_one h = elim h [ ]
     by (inr p) =
-        let a = entered n e p.0 (change n e s).kept in
-        arc_single a (change n e s).kept a.arc (entered_from n e p.0 (change n e s).kept) k
-        (subst (λ (o : Option Activation). IsIn (option_to_list (ctx_arc_of 0 o (change n e s).kept)) k) p.1 there)
+        let a = new_activation n e p.0 (change n e s).rest in
+        arc_single a (change n e s).rest a.arc (entered_from n e p.0 (change n e s).rest) k
+        (subst (λ (o : Option Activation). IsIn (option_to_list (ctx_arc_of 0 o (change n e s).rest)) k) p.1 there)
 
 -- ---- the rows
 
-module _ (n : SymbolMap) (xs : List Seen) (stand : AllByRecursion (StandsOn n) xs) where
-  on : (x : Seen) → IsIn xs x → StandsOn n x
+module _ (n : SymbolMap) (xs : List EventOnStack) (stand : AllByRecursion (StandsOn n) xs) where
+  on : (x : EventOnStack) → IsIn xs x → StandsOn n x
   on x there = of_all (StandsOn n) xs stand x there
 
   abbrev place_keys : List CtxPlace
@@ -245,7 +245,7 @@ module _ (n : SymbolMap) (xs : List Seen) (stand : AllByRecursion (StandsOn n) x
       (from_append (flat_map option_to_list (ctx_arcs 0 x.0.stack))
       (option_to_list (pushed_arc 0 (change n x.0.event x.0.stack))) k x.2)
     where
-      by : (y : Seen) → AreEntered y.stack
+      by : (y : EventOnStack) → AreEntered y.stack
           → IsIn (flat_map option_to_list (ctx_arcs 0 y.stack)) k
           ⊎ IsIn (option_to_list (pushed_arc 0 (change n y.event y.stack))) k → IsSingleArc k
       by y all (inl under) = under_single y.stack all k under

@@ -10,19 +10,19 @@ use Rattle.cg_format.specs.declared.trigger.Trigger.{Trigger}
 use Rattle.cg_format.specs.declared.trigger.Trigger.TheVariants.{Termination}
 use Rattle.cg_format.specs.declared.head.PartHead.{PartHead}
 use Rattle.sym_map.specs.SymbolMap.{SymbolMap}
-use Rattle.shadow_stack.specs.Traces.{Seen}
+use Rattle.shadow_stack.specs.Traces.{EventOnStack}
 use Rattle.recorder.specs.Rows.{rows_of}
 use Rattle.part_dump.specs.Calls.{Call, Readies, Sees, Writes, calls, closed_calls, part_calls, segment_calls}
 use Rattle.part_dump.specs.Calls.{steps_calls, thread_calls, tried_calls}
-use Rattle.part_dump.specs.Cuts.{Asked, Split, cuts}
-use Rattle.part_dump.specs.Steps.{Step, event_of, own, own_seen, threads}
+use Rattle.part_dump.specs.Cuts.{DumpPoints, Split, cuts}
+use Rattle.part_dump.specs.Steps.{Step, event_of, steps_of_thread, events_on_stack_of, threads}
 use Rattle.part_dump.specs.Watching.{after_call, put_of, puts}
 use Rattle.part_dump.proofs.CutLemmas.{cuts_together}
 use Rattle.sym_map.specs.AddressMap.{address_map}
 use Rattle.addr_rows.specs.EventRows.{addr_rows_of}
 use Rattle.addr_rows.specs.Files.{addr_files, addr_rows_in, closed_files, files_from, segment_files, thread_files}
-use Rattle.addr_rows.specs.Stacked.{AreOn, all_stacked}
-use Rattle.addr_rows.specs.Translated.{translated}
+use Rattle.addr_rows.specs.Stacked.{AreOn, with_stacks_of}
+use Rattle.addr_rows.specs.Translated.{translation}
 use Rattle.addr_rows.proofs.AddressMapLemmas.{address_code, address_names}
 use Rattle.addr_rows.proofs.AlikeLemmas.{code_back}
 use Rattle.addr_rows.proofs.RestackLemmas.{AreAlike, alike_append, back, cuts_stacked, on_append}
@@ -34,20 +34,20 @@ module _ (m : SymbolMap) (head : PartHead) (base : List ℕ) where
   n = address_map m
 
   abbrev put : Call → List Named
-  put c = put_of translated n base m c
+  put c = put_of translation n base m c
 
   abbrev put_all : List Call → List Named
   put_all cs = flat_map put cs
 
-  stays : (c : Call) → after_call translated n m c ≡ m
+  stays : (c : Call) → after_call translation n m c ≡ m
   stays (Readies thread pc) = refl
   stays (Sees x) = refl
   stays (Writes h rows) = refl
 
-  puts_all : (cs : List Call) → puts translated n base m cs ≡ put_all cs
+  puts_all : (cs : List Call) → puts translation n base m cs ≡ put_all cs
   puts_all [] = refl
   puts_all (c ∷ cs) =
-      ap (λ v. put c ++ puts translated n base v cs) (stays c) ∙ ap (λ fs. put c ++ fs) (puts_all cs)
+      ap (λ v. put c ++ puts translation n base v cs) (stays c) ∙ ap (λ fs. put c ++ fs) (puts_all cs)
 
   no_puts : (xs : List Step) → put_all (steps_calls xs) ≡ []
   no_puts [] = refl
@@ -64,7 +64,7 @@ module _ (m : SymbolMap) (head : PartHead) (base : List ℕ) where
       flat_map-append put (g x) (flat_map g xs) ∙ ap (λ fs. fs ++ put_all (flat_map g xs)) (same x)
       ∙ ap (λ fs. f x ++ fs) (put_each g f same xs)
 
-  thread_puts : (part : ℕ) (trigger : Trigger) (thread : ℕ) (ys xs : List Seen) → length ys ≡ length xs
+  thread_puts : (part : ℕ) (trigger : Trigger) (thread : ℕ) (ys xs : List EventOnStack) → length ys ≡ length xs
       → put_all (thread_calls (rows_of n) head part trigger thread ys)
       ≡ thread_files head m base part trigger thread (addr_rows_of m ys) xs
   unfolding addr_rows_of
@@ -76,31 +76,31 @@ module _ (m : SymbolMap) (head : PartHead) (base : List ℕ) where
   -- a segment that follows these steps, and with the stacks of the map
   part_puts : (earlier past segment : List Step) → AreAlike earlier past → AreOn n past segment → (part : ℕ)
       (trigger : Trigger) → put_all (part_calls (rows_of n) head part segment trigger)
-      ≡ segment_files head m base earlier part (all_stacked m past segment) trigger
+      ≡ segment_files head m base earlier part (with_stacks_of m past segment) trigger
   part_puts earlier past segment alike on part trigger =
-      put_each (λ thread. thread_calls (rows_of n) head part trigger thread (own_seen thread segment)) file each
+      put_each (λ thread. thread_calls (rows_of n) head part trigger thread (events_on_stack_of thread segment)) file each
       (threads segment)
       ∙ ap (λ ts. flat_map file ts) (sym (threads_stacked m past segment))
     where
       again : List Step
-      again = all_stacked m past segment
+      again = with_stacks_of m past segment
 
       file : ℕ → List Named
       file thread =
-          thread_files head m base part trigger thread (addr_rows_in m thread earlier again) (own_seen thread again)
+          thread_files head m base part trigger thread (addr_rows_in m thread earlier again) (events_on_stack_of thread again)
 
-      as_many : (thread : ℕ) → length (own_seen thread segment) ≡ length (own_seen thread again)
+      as_many : (thread : ℕ) → length (events_on_stack_of thread segment) ≡ length (events_on_stack_of thread again)
       as_many thread =
-          length-map (own thread segment) (λ (x : Step). x.seen) ∙ sym (length-map (own thread segment) event_of)
+          length-map (steps_of_thread thread segment) (λ (x : Step). x.on_stack) ∙ sym (length-map (steps_of_thread thread segment) event_of)
           ∙ ap (λ es. length es) (sym (own_events_stacked m thread past segment))
-          ∙ length-map (own thread again) event_of ∙ sym (length-map (own thread again) (λ (x : Step). x.seen))
+          ∙ length-map (steps_of_thread thread again) event_of ∙ sym (length-map (steps_of_thread thread again) (λ (x : Step). x.on_stack))
 
       each : (thread : ℕ)
-          → put_all (thread_calls (rows_of n) head part trigger thread (own_seen thread segment)) ≡ file thread
+          → put_all (thread_calls (rows_of n) head part trigger thread (events_on_stack_of thread segment)) ≡ file thread
       each thread =
-          thread_puts part trigger thread (own_seen thread segment) (own_seen thread again) (as_many thread)
-          ∙ ap (λ ys. thread_files head m base part trigger thread (addr_rows_of m (own_seen thread ys))
-          (own_seen thread again)) (sym (back m n earlier past segment alike on))
+          thread_puts part trigger thread (events_on_stack_of thread segment) (events_on_stack_of thread again) (as_many thread)
+          ∙ ap (λ ys. thread_files head m base part trigger thread (addr_rows_of m (events_on_stack_of thread ys))
+          (events_on_stack_of thread again)) (sym (back m n earlier past segment alike on))
 
   closed_puts : (earlier past : List Step) (part : ℕ) (segments : List (List Step × Trigger)) → AreAlike earlier past
       → AreOn n past (steps_in segments)
@@ -115,9 +115,9 @@ module _ (m : SymbolMap) (head : PartHead) (base : List ℕ) where
       (flat_map-append put (steps_calls s.0) (part_calls (rows_of n) head part s.0 s.1)
       ∙ ap (λ fs. fs ++ put_all (part_calls (rows_of n) head part s.0 s.1)) (no_puts s.0)
       ∙ part_puts earlier past s.0 alike parts.0 part s.1)
-      ∙ ap (λ fs. segment_files head m base earlier part (all_stacked m past s.0) s.1 ++ fs)
-      (closed_puts (earlier ++ all_stacked m past s.0) (past ++ s.0) (part + 1) segments
-      (alike_append earlier past (all_stacked m past s.0) s.0 alike (λ thread. own_events_stacked m thread past s.0))
+      ∙ ap (λ fs. segment_files head m base earlier part (with_stacks_of m past s.0) s.1 ++ fs)
+      (closed_puts (earlier ++ with_stacks_of m past s.0) (past ++ s.0) (part + 1) segments
+      (alike_append earlier past (with_stacks_of m past s.0) s.0 alike (λ thread. own_events_stacked m thread past s.0))
       parts.1)
 
   none_alike : AreAlike [] []
@@ -125,12 +125,12 @@ module _ (m : SymbolMap) (head : PartHead) (base : List ℕ) where
 
   -- ---- of a whole run, whose steps are these
 
-  module _ (asked : Asked) (steps : List Step) (on : AreOn n [] steps) where
+  module _ (asked : DumpPoints) (steps : List Step) (on : AreOn n [] steps) where
     abbrev here : Split Step Trigger
     here = cuts n asked steps
 
     abbrev there : List Step
-    there = all_stacked m [] steps
+    there = with_stacks_of m [] steps
 
     cut_there : cuts m asked there ≡ resplit m [] here
     cut_there = cuts_stacked m n (code_back m n (address_code m)) (address_names m) asked steps on
@@ -144,7 +144,7 @@ module _ (m : SymbolMap) (head : PartHead) (base : List ℕ) where
         ≡ closed_files head m base (restacked m [] here.closed)
     closed_here = closed_puts [] [] 1 here.closed none_alike on_parts.0
 
-    pub so_far : puts translated n base m
+    pub so_far : puts translation n base m
         (closed_calls (rows_of n) head here.closed ++ steps_calls here.recent)
         ≡ closed_files head m base (cuts m asked there).closed
     so_far =
@@ -155,7 +155,7 @@ module _ (m : SymbolMap) (head : PartHead) (base : List ℕ) where
         ∙ ap (λ (c : Split Step Trigger). closed_files head m base c.closed) (sym cut_there)
 
     pub whole : (tried : Option (ThreadNo × ℕ))
-        → puts translated n base m (calls (rows_of n) head n asked steps tried) ≡ addr_files head m base asked there
+        → puts translation n base m (calls (rows_of n) head n asked steps tried) ≡ addr_files head m base asked there
     unfolding calls addr_files
     whole tried =
         let last = part_calls (rows_of n) head (length here.closed + 1) here.recent Termination in
@@ -173,6 +173,6 @@ module _ (m : SymbolMap) (head : PartHead) (base : List ℕ) where
         (part_puts (steps_in all) (steps_in here.closed) here.recent (restacked_alike m [] here.closed) on_parts.1
         (length here.closed + 1) Termination
         ∙ ap (λ k. segment_files head m base (steps_in all) (k + 1)
-        (all_stacked m (steps_in here.closed) here.recent) Termination) (sym (restacked_length m [] here.closed)))
+        (with_stacks_of m (steps_in here.closed) here.recent) Termination) (sym (restacked_length m [] here.closed)))
         ∙ ap (λ (c : Split Step Trigger). closed_files head m base c.closed
         ++ segment_files head m base (steps_in c.closed) (length c.closed + 1) c.recent Termination) (sym cut_there)

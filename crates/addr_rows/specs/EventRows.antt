@@ -6,7 +6,7 @@ use Rattle.sym_map.specs.SymbolMap.{SymbolMap, place_of}
 use Rattle.arc_costs.specs.Contents.{Listed}
 use Rattle.arc_costs.specs.Rows.{ArcRow}
 use Rattle.arc_costs.specs.Rows.{LineRow}
-use Rattle.shadow_stack.specs.Traces.{Seen}
+use Rattle.shadow_stack.specs.Traces.{EventOnStack}
 use Rattle.recorder.specs.Rows.{rows_of}
 use Rattle.addr_rows.specs.Rows.{AddrListed}
 use Rattle.addr_rows.specs.declared.rows.AddrArc.{AddrArc}
@@ -33,12 +33,12 @@ located_arc m row = record {
   cost = row.cost;
 }
 
-abbrev pub located : SymbolMap → Listed → AddrListed
-located m rows = record {
+abbrev pub located_rows : SymbolMap → Listed → AddrListed
+located_rows m rows = record {
   lines = map (located_line m) rows.lines;
   arcs = map (located_arc m) rows.arcs;
 }
 
 -- the rows by address of events, with their stacks by the map that tells code by its addresses
-unfoldable pub addr_rows_of : SymbolMap → List Seen → AddrListed
-addr_rows_of m xs = located m (rows_of (address_map m) xs)
+unfoldable pub addr_rows_of : SymbolMap → List EventOnStack → AddrListed
+addr_rows_of m xs = located_rows m (rows_of (address_map m) xs)

@@ -8,27 +8,27 @@ use Rattle.sym_map.specs.SymbolMap.{SymbolMap}
 use Rattle.ctx_rows.specs.States as contexts
 
 -- The map that the first thread was made ready with, and the watch by context.
-pub record State : Type 0 where
-  pub over : Option SymbolMap
-  pub watched : contexts.State
+pub record AddrState : Type 0 where
+  pub first_syms : Option SymbolMap
+  pub watched : contexts.CtxState
 
 -- the map once a thread is made ready
 abbrev pub first_map : SymbolMap → Option SymbolMap → SymbolMap
 first_map m None = m
 first_map m (Some over) = over
 
-abbrev pub after_ready : State → ThreadNo → ℕ → SymbolMap → State
+abbrev pub after_ready : AddrState → ThreadNo → ℕ → SymbolMap → AddrState
 after_ready w thread pc m = record {
-  over = Some (first_map m w.over);
-  watched = contexts.after_ready w.watched thread pc (address_map (first_map m w.over));
+  first_syms = Some (first_map m w.first_syms);
+  watched = contexts.after_ready w.watched thread pc (address_map (first_map m w.first_syms));
 }
 
-abbrev pub seen_over : Option SymbolMap → contexts.State → Event → List ℕ → contexts.State
-seen_over None s e cost = s
-seen_over (Some over) s e cost = contexts.after_seen s e cost (address_map over)
+abbrev pub context_state_after : Option SymbolMap → contexts.CtxState → Event → List ℕ → contexts.CtxState
+context_state_after None s e cost = s
+context_state_after (Some over) s e cost = contexts.after_seen s e cost (address_map over)
 
-abbrev pub after_seen : State → Event → List ℕ → State
-after_seen w e cost = record { over = w.over; watched = seen_over w.over w.watched e cost }
+abbrev pub after_seen : AddrState → Event → List ℕ → AddrState
+after_seen w e cost = record { first_syms = w.first_syms; watched = context_state_after w.first_syms w.watched e cost }
 
-abbrev pub after_part : State → ThreadNo → State
-after_part w thread = record { over = w.over; watched = contexts.after_part w.watched thread }
+abbrev pub after_part : AddrState → ThreadNo → AddrState
+after_part w thread = record { first_syms = w.first_syms; watched = contexts.after_part w.watched thread }

@@ -49,11 +49,11 @@ abbrev pub all_rows : AddrListed → List AddrRow
 all_rows rows = map Line rows.lines ++ map Arc rows.arcs
 
 -- by rising function, of which there are so many; the rows of a function stay in their order
-abbrev pub is_of : ℕ → AddrRow → Bool
-is_of function row = (function_of (plain_row row)).0 == function
+abbrev pub is_row_of : ℕ → AddrRow → Bool
+is_row_of function row = (function_of (plain_row row)).0 == function
 
 abbrev pub by_function : ℕ → List AddrRow → List AddrRow
-by_function functions rows = flat_map (λ function. filter (is_of function) rows) (below functions)
+by_function functions rows = flat_map (λ function. filter (is_row_of function) rows) (below functions)
 
 -- the functions and files of a row are those of the map
 abbrev pub IsKnown : SymbolMap → AddrRow → Type 0

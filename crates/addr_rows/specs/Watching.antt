@@ -7,14 +7,14 @@ use Rattle.ctx_rows.specs.Watching as contexts
 use Rattle.addr_rows.specs.Rows.{AddrListed}
 use Rattle.addr_rows.specs.Texts.{addr_text}
 use Rattle.addr_rows.specs.Telling.{thread_rows}
-use Rattle.addr_rows.specs.States.{State, after_part, after_ready, after_seen}
+use Rattle.addr_rows.specs.States.{AddrState, after_part, after_ready, after_seen}
 
 -- a part is the text of its thread's rows by address
 abbrev pub text_in : PartHead → Option AddrListed → SymbolMap → List ℕ
 text_in head None m = []
 text_in head (Some rows) m = addr_text head rows m
 
-abbrev pub by_address : Meaning State
+abbrev pub by_address : Meaning AddrState
 by_address = record {
   after_ready = after_ready;
   after_seen = λ w event cost wait woken m. after_seen w event cost;
@@ -23,7 +23,7 @@ by_address = record {
 }
 
 -- a state before any call
-pub record IsFresh (w : State) : Type 0 where
-  pub over : w.over ≡ None
+pub record IsFresh (w : AddrState) : Type 0 where
+  pub first_syms : w.first_syms ≡ None
   pub callers : w.watched.callers ≡ 0
   pub watched : contexts.IsFresh w.watched

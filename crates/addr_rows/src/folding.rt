@@ -10,8 +10,8 @@ ghost use Rattle.addr_rows.specs.Plain.{plain};
 use crate::plain::plain_rows;
 use crate::rows::AddrRows;
 use arc_costs::TableRows;
-use ctx_rows::summed;
 use byte_text::OutOfMemory;
+use ctx_rows::summed_rows;
 use std::alloc::Global;
 
 /// The plain rows: the sums over all addresses of a line, and of an arc. No sum passes 64 bits.
@@ -22,5 +22,5 @@ pub fn fold(alloc: Global, rows: &AddrRows) -> Result<TableRows, OutOfMemory>
     ensures { IfOk result (AreSumsOf (plain rows.now.rows)) }
 {
     let all = plain_rows(alloc, rows)?;
-    summed(alloc, &all)
+    summed_rows(alloc, &all)
 }

@@ -6,8 +6,8 @@ ghost use Rattle.addr_rows.specs.Texts.{all_rows, by_function, plain_row};
 
 use crate::rows::{AddrArc, AddrLine, AddrRows};
 use arc_costs::{ArcRow, LineRow};
-use cg_format::Row;
 use byte_text::OutOfMemory;
+use cg_format::Row;
 use std::alloc::Global;
 
 /// A line row or an arc row.

@@ -4,7 +4,7 @@ ghost use Rattle.std.specs.Prelude.{◌≡◌, ◌∷◌, ◌++◌, List, IfOk, 
 ghost use Rattle.event_costs.specs.Costs.{IsWhole, events_shown};
 ghost use Rattle.sym_map.specs.SymbolMap.{IsFunc, SymbolMap};
 ghost use Rattle.cg_format.specs.Marks.{Mark, Plain};
-ghost use Rattle.cg_format.specs.Standing.{Wrote};
+ghost use Rattle.cg_format.specs.Standing.{WriterState};
 ghost use Rattle.addr_rows.specs.Known.{AreKnown};
 ghost use Rattle.addr_rows.specs.Texts.{IsKnown, addr_text, after_row, calls_text, cost_text_at, entry_position};
 ghost use Rattle.addr_rows.specs.Texts.{heading, position, row_lines};
@@ -60,7 +60,7 @@ fn cost_text(
 {
     let mut text = Text::new(alloc);
     push_position(alloc, &mut text, address, line)?;
-    'costs: for number in cost.shown(head.branch) {
+    'costs: for number in cost.shown_numbers(head.branch) {
         text.push(b" ")?;
         text.push_number(*number)?;
     }
@@ -88,8 +88,8 @@ fn put_arc(
     row: &AddrArc,
 ) -> Result<(), OutOfMemory>
     requires { IsFunc syms.now row.now.arc.callee }
-    ensures { (before : List Mark) → Wrote syms.now before writer.old
-        → OnOk result (Wrote syms.now (row_lines head.now syms.now before (rows.Arc row.now)) writer.new) }
+    ensures { (before : List Mark) → WriterState syms.now before writer.old
+        → OnOk result (WriterState syms.now (row_lines head.now syms.now before (rows.Arc row.now)) writer.new) }
 {
     let callee = row.arc.callee;
     let calls = calls_text(alloc, syms, row.calls, callee)?;
@@ -109,8 +109,8 @@ fn put_row(
     row: &AddrRow,
 ) -> Result<(), OutOfMemory>
     requires { IsKnown syms.now row.now }
-    ensures { (before : List Mark) → Wrote syms.now before writer.old
-        → OnOk result (Wrote syms.now (after_row head.now syms.now before row.now) writer.new) }
+    ensures { (before : List Mark) → WriterState syms.now before writer.old
+        → OnOk result (WriterState syms.now (after_row head.now syms.now before row.now) writer.new) }
 {
     put_place(alloc, writer, head, syms, &plain_row(row))?;
     match row {
@@ -130,8 +130,8 @@ fn put_heading(
     sum: &[u128],
 ) -> Result<(), OutOfMemory>
     requires { IsWhole sum.now }
-    ensures { (m : SymbolMap) (before : List Mark) → Wrote m before writer.old
-        → OnOk result (Wrote m (reverse (map Plain (heading head.now sum.now)) ++ before) writer.new) }
+    ensures { (m : SymbolMap) (before : List Mark) → WriterState m before writer.old
+        → OnOk result (WriterState m (reverse (map Plain (heading head.now sum.now)) ++ before) writer.new) }
 {
     put_identity(alloc, writer, head)?;
     put_description(alloc, writer, head)?;

@@ -16,7 +16,7 @@ use Rattle.cycles.specs.Limits.{AreAllWithin, of_calls, of_pair, is_pair, pair_c
 use Rattle.annotate.specs.Calls.{is_call}
 use Rattle.report_rows.specs.Lists.{each_event}
 use Rattle.report_rows.specs.Orders.{numbers}
-use Rattle.report_rows.specs.Entries.{AreWithin, Keyed, call_entry, calls_of, cost_of, costs_of, far_end, is_at}
+use Rattle.report_rows.specs.Entries.{AreWithin, EntryValue, call_entry, calls_of, cost_of, costs_of, far_end, is_at}
 use Rattle.report_rows.specs.Entries.{near_end, of_list}
 use Rattle.report_rows.specs.Ranks.{ArePlaces}
 use Rattle.report_rows.specs.declared.entries.End.{End}
@@ -130,10 +130,10 @@ module _ (p : Contents) (profile : IsProfile p) (functions places : List ℕ)
   abbrev n : ℕ
   n = length p.functions
 
-  abbrev entry : CallRow → Keyed
+  abbrev entry : CallRow → EntryValue
   entry = call_entry places end
 
-  abbrev listed : ℕ → List Keyed
+  abbrev listed : ℕ → List EntryValue
   listed f = filter (of_list f) (map entry p.call_rows)
 
   far_below : All (λ row. far_end end row < n) p.call_rows
@@ -154,12 +154,12 @@ module _ (p : Contents) (profile : IsProfile p) (functions places : List ℕ)
       by Callee is = ap (λ b. (row.callee == f) && b) is
           ∙ and_flip (row.callee == f) (row.caller == get_or functions i 0)
 
-  sum_there : (F : Keyed → ℕ) (f i : ℕ) → i < length functions
+  sum_there : (F : EntryValue → ℕ) (f i : ℕ) → i < length functions
       → sum_by F (filter (is_at i) (listed f))
       ≡ sum_by (λ row. cond (pair end f (get_or functions i 0) row) (F (entry row)) 0) p.call_rows
   sum_there F f i lt =
-      let G : Keyed → ℕ = λ k. cond (is_at i k) (F k) 0 in
-      let H : Keyed → ℕ = λ k. cond (of_list f k) (G k) 0 in
+      let G : EntryValue → ℕ = λ k. cond (is_at i k) (F k) 0 in
+      let H : EntryValue → ℕ = λ k. cond (of_list f k) (G k) 0 in
       sum_of_filter F (is_at i) (listed f) ∙ sum_of_filter G (of_list f) (map entry p.call_rows)
       ∙ sum_of_map H entry p.call_rows
       ∙ sum_agree_on (λ row. H (entry row)) (λ row. cond (pair end f (get_or functions i 0) row)
@@ -223,7 +223,7 @@ module _ (p : Contents) (profile : IsProfile p) (functions places : List ℕ)
       calls Caller is = omega (arith, is, within (length p.events) _ (of_calls f (get_or functions i 0)))
       calls Callee is = omega (arith, is, within (length p.events) _ (of_calls (get_or functions i 0) f))
 
-pub neighbours_within : (v : View) (p : Contents) (places : List ℕ) (end : End) (f : ℕ) (ks : List Keyed)
+pub neighbours_within : (v : View) (p : Contents) (places : List ℕ) (end : End) (f : ℕ) (ks : List EntryValue)
     → v.profile.now ≡ p → IsProfile p → AreAllWithin p → IsPermutation (numbers (length p.functions)) v.functions.now
     → ArePlaces v.functions.now places → ks ≡ filter (of_list f) (map (call_entry places end) p.call_rows)
     → AreNeighbours v ks
@@ -244,7 +244,7 @@ module _ (v : View) (profile : IsProfile v.profile.now) (places : List ℕ)
   abbrev fs : List ℕ
   fs = v.functions.now
 
-  abbrev rows_of : End → List Keyed
+  abbrev rows_of : End → List EntryValue
   rows_of end = filter (of_list f) (map (call_entry places end) p.call_rows)
 
   line_is : (end : End) (i : ℕ) → i < length fs
@@ -274,7 +274,7 @@ module _ (v : View) (profile : IsProfile v.profile.now) (places : List ℕ)
       (function_text p g))
       (flip (group_at v.groups.now f) (group_at v.groups.now g))
 
-  pub neighbours_are : (end : End) (ks : List Keyed) → ks ≡ rows_of end
+  pub neighbours_are : (end : End) (ks : List EntryValue) → ks ≡ rows_of end
       → neighbours_text v mark f ks ≡ flat_map (line_of p v.groups.now end mark f) (filter (is_call_of p end f) fs)
   neighbours_are end ks is =
       let N = numbers (length fs) in
@@ -297,7 +297,7 @@ module _ (v : View) (profile : IsProfile v.profile.now) (places : List ℕ)
 pub side_is : (v : View) → IsProfile v.profile.now → (places : List ℕ)
     → IsPermutation (numbers (length v.profile.now.functions)) v.functions.now
     → ArePlaces v.functions.now places
-    → (f : ℕ) (end : End) (ks : List Keyed)
+    → (f : ℕ) (end : End) (ks : List EntryValue)
     → ks ≡ filter (of_list f) (map (call_entry places end) v.profile.now.call_rows)
     → neighbours_text v (mark_of end) f ks ≡ side_text v.profile.now v.groups.now v.functions.now end f
 side_is v profile places same stands f Caller ks is =

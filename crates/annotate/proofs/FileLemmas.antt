@@ -19,7 +19,7 @@ use Rattle.cg_read.specs.declared.rows.SelfRow.{SelfRow}
 use Rattle.annotate.specs.Files.{is_in_file}
 use Rattle.annotate.specs.inner.SourceRows.{AreNumbersOf}
 use Rattle.report_rows.specs.Orders.{text_order}
-use Rattle.report_rows.specs.Entries.{of_list, said, self_entry}
+use Rattle.report_rows.specs.Entries.{of_list, entry_values, self_entry}
 use Rattle.report_rows.specs.Lists.{AreFileLists}
 use Rattle.report_rows.specs.Tables.{list_at}
 use Rattle.report_rows.specs.declared.entries.By.TheVariants as by
@@ -109,7 +109,7 @@ module _ (p : Contents) (profile : IsProfile p) (name : List ℕ) where
 
   pub rows_there : (rows : List (Vec Entry Global)) (n : ℕ) → AreFileLists p rows
       → (n < length p.files) × (bytes_eq name (file_at p.files n) ≡ true)
-      → said (list_at rows n) ≡ map (self_entry by.File) (filter (is_in_file p name) p.self_rows)
+      → entry_values (list_at rows n) ≡ map (self_entry by.File) (filter (is_in_file p name) p.self_rows)
   rows_there rows n stands here =
       stands.exact n here.0
       ∙ filter_of_map (self_entry by.File) (of_list n) p.self_rows
@@ -146,8 +146,8 @@ any_agree p q [] same = refl
 any_agree p q (x ∷ xs) same = ap (λ b. b || list_any p xs) (same x) ∙ ap (λ b. q x || b) (any_agree p q xs same)
 
 -- what a set of texts holds, by its list
-pub held : (names : BTreeSet (List ℕ)) (name : List ℕ) → has_text names.keys name ≡ contains text_order names name
-held names name = any_agree (bytes_eq name) (is_at (text_order name)) names.keys (λ key. texts_ties name key)
+pub set_holds : (names : BTreeSet (List ℕ)) (name : List ℕ) → has_text names.keys name ≡ contains text_order names name
+set_holds names name = any_agree (bytes_eq name) (is_at (text_order name)) names.keys (λ key. texts_ties name key)
 
 with_known : (a b c : Bool) → (b ≡ true → c ≡ false) → cond b true (a && not c) ≡ ((a || b) && not c)
 with_known true true c known = sym (ap not (known refl))

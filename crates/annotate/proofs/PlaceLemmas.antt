@@ -20,7 +20,7 @@ use Rattle.std.proofs.lemmas.List.Elements.{All-head, All-tail}
 use Rattle.std.proofs.lemmas.List.Folds.{flat_map-map}
 use Rattle.std.proofs.lemmas.Map.Entries.{btree_map_get_place}
 use Rattle.report_rows.proofs.ListLemmas.{flat_map_agree}
-use Rattle.report_rows.specs.Entries.{AreAtPlaces, Keyed, Places, if_any, is_at, said}
+use Rattle.report_rows.specs.Entries.{AreAtPlaces, EntryValue, Places, if_any, is_at, entry_values}
 use Rattle.report_rows.specs.declared.entries.Entry.{Entry}
 
 is_some-map : {X Y : Type 0} (f : X → Y) (o : Option X) → is_some (option_map f o) ≡ is_some o
@@ -96,7 +96,7 @@ slice_get_there (y ∷ xs) (suc i) x lt is = slice_get_there xs i x (omega arith
 
 -- Entries at their places
 
-pub is_some-if_any : (ks : List Keyed) (n : ℕ) → is_some (if_any (filter (is_at n) ks)) ≡ list_any (is_at n) ks
+pub is_some-if_any : (ks : List EntryValue) (n : ℕ) → is_some (if_any (filter (is_at n) ks)) ≡ list_any (is_at n) ks
 is_some-if_any [] n = refl
 is_some-if_any (k ∷ ks) n = cases (is_at n k) (is_some-if_any ks n)
   where
@@ -112,23 +112,23 @@ any_agree p q same (x ∷ xs) = ap (λ b. b || list_any p xs) (same x) ∙ ap (�
 nat_cmp-is : (x y : ℕ) → is_eq (nat_cmp x y) ≡ (x == y)
 nat_cmp-is x y = grind (arith, nat_tests)
 
-module _ (ks : List Keyed) (places : Places) (stands : AreAtPlaces ks places) where
+module _ (ks : List EntryValue) (places : Places) (stands : AreAtPlaces ks places) where
   has_place : (n : ℕ) → list_any (λ x. n == x) (tree.keys places) ≡ list_any (is_at n) ks
   has_place n =
       sym (any_agree (λ x. is_eq (nat_cmp n x)) (λ x. n == x) (λ x. nat_cmp-is n x) (tree.keys places))
       ∙ sym (is_some-lookup (λ x. is_eq (nat_cmp n x)) places.entries)
-      ∙ sym (is_some-map (λ (entries : Vec Entry Global). said entries.items) (tree.get nat_cmp places n))
+      ∙ sym (is_some-map (λ (entries : Vec Entry Global). entry_values entries.items) (tree.get nat_cmp places n))
       ∙ ap is_some (stands.exact n) ∙ is_some-if_any ks n
 
-  pub said_is : (n : ℕ) (v : Vec Entry Global) → tree.get nat_cmp places n ≡ Some v → said v.items ≡ filter (is_at n) ks
+  pub said_is : (n : ℕ) (v : Vec Entry Global) → tree.get nat_cmp places n ≡ Some v → entry_values v.items ≡ filter (is_at n) ks
   said_is n v got = from (filter (is_at n) ks)
-      (sym (ap (option_map (λ (w : Vec Entry Global). said w.items)) got) ∙ stands.exact n)
+      (sym (ap (option_map (λ (w : Vec Entry Global). entry_values w.items)) got) ∙ stands.exact n)
     where
-      from : (xs : List Keyed) → Some (said v.items) ≡ if_any xs → said v.items ≡ xs
+      from : (xs : List EntryValue) → Some (entry_values v.items) ≡ if_any xs → entry_values v.items ≡ xs
       from [] e = absurd (cc)
       from (x ∷ xs) e = cc
 
-any_below : (n q : ℕ) (xs : List Keyed) → All (λ k. k.at < n) xs → list_any (is_at q) xs ≡ true → q < n
+any_below : (n q : ℕ) (xs : List EntryValue) → All (λ k. k.at < n) xs → list_any (is_at q) xs ≡ true → q < n
 any_below n q [] all e = absurd (cc)
 any_below n q (x ∷ xs) all e =
     cases (x.at == q) refl (λ rest. any_below n q xs (All-tail (λ k. k.at < n) x xs all) rest)
@@ -163,7 +163,7 @@ all_high n (x ∷ xs) all = (
       (All-tail (λ q. q < n) x xs all),
 )
 
-module _ (ks : List Keyed) (places : Places) (stands : AreAtPlaces ks places) (n : ℕ)
+module _ (ks : List EntryValue) (places : Places) (stands : AreAtPlaces ks places) (n : ℕ)
     (below : All (λ k. k.at < n) ks) where
   abbrev keys : List ℕ
   keys = tree.keys places
@@ -189,17 +189,17 @@ module _ (ks : List Keyed) (places : Places) (stands : AreAtPlaces ks places) (n
       omega (arith, low, at, ap (λ (x : ℕ × Vec Entry Global). x.0) is)
 
   pub said_there : (i : ℕ) (e : ℕ × Vec Entry Global) → i < length places.entries → e ≡ get_or places.entries i e
-      → said e.1.items ≡ filter (is_at e.0) ks
+      → entry_values e.1.items ≡ filter (is_at e.0) ks
   said_there i e lt is =
       said_is ks places stands e.0 e.1
       (btree_map_get_place nat_cmp_total places i e.0 e.1 stands.ordered
       (slice_get_there places.entries i e lt is))
 
   -- a text for each place at which entries stand
-  pub place_texts : (g : ℕ → List Keyed → List ℕ) → flat_map (λ e. g e.0 (said e.1.items)) places.entries
+  pub place_texts : (g : ℕ → List EntryValue → List ℕ) → flat_map (λ e. g e.0 (entry_values e.1.items)) places.entries
       ≡ flat_map (λ m. g m (filter (is_at m) ks)) (filter (λ m. list_any (is_at m) ks) (range_with_len 0 n))
   place_texts g =
-      flat_map_agree (λ e. g e.0 (said e.1.items)) (λ e. g e.0 (filter (is_at e.0) ks)) places.entries
+      flat_map_agree (λ e. g e.0 (entry_values e.1.items)) (λ e. g e.0 (filter (is_at e.0) ks)) places.entries
       (λ i d lt. ap (g (get_or places.entries i d).0)
       (said_there i (get_or places.entries i d) lt (get_or_default places.entries i d (get_or places.entries i d) lt)))
       ∙ sym (flat_map-map (λ m. g m (filter (is_at m) ks)) (λ (e : ℕ × Vec Entry Global). e.0) places.entries)

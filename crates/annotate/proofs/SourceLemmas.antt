@@ -20,8 +20,8 @@ use Rattle.report_rows.specs.Orders.{numbers}
 use Rattle.annotate.specs.Sources.{has_cost, is_other, line_cost, line_costs_text, lines_end, lines_text, other_line}
 use Rattle.annotate.specs.Sources.{others_text, shown_byte, text_line}
 use Rattle.annotate.specs.Sources as src
-use Rattle.report_rows.specs.Entries.{AreAtPlaces, AreWithin, Keyed, Places, cost_of, costs_of, if_any, is_at, said}
-use Rattle.report_rows.specs.Entries.{said_at, self_entry}
+use Rattle.report_rows.specs.Entries.{AreAtPlaces, AreWithin, EntryValue, Places, cost_of, costs_of, if_any, is_at, entry_values}
+use Rattle.report_rows.specs.Entries.{values_at, self_entry}
 use Rattle.annotate.specs.inner.SourceRows.{costs_or_dot, is_outside, other_with}
 use Rattle.report_rows.specs.declared.entries.By.TheVariants as by
 use Rattle.report_rows.specs.declared.entries.Entry.{Entry}
@@ -67,7 +67,7 @@ text_and false b t = refl
 outside_is : (count line : ℕ) → is_outside count line ≡ not (nat_le 1 line && nat_le line count)
 outside_is count line = grind (arith, nat_tests)
 
-pub if_any_all : (P : List Keyed → Type 0) (xs : List Keyed) → P xs → IfSome (if_any xs) P
+pub if_any_all : (P : List EntryValue → Type 0) (xs : List EntryValue) → P xs → IfSome (if_any xs) P
 if_any_all P [] all = tt
 if_any_all P (x ∷ xs) all = all
 
@@ -75,10 +75,10 @@ module _ (p : Contents) (profile : IsProfile p) (name : List ℕ) where
   abbrev rows : List SelfRow
   rows = filter (is_in_file p name) p.self_rows
 
-  abbrev ks : List Keyed
+  abbrev ks : List EntryValue
   ks = map (self_entry by.File) (filter (is_in_file p name) p.self_rows)
 
-  sum_there : (F : Keyed → ℕ) (n : ℕ) → sum_by F (filter (is_at n) ks)
+  sum_there : (F : EntryValue → ℕ) (n : ℕ) → sum_by F (filter (is_at n) ks)
       ≡ sum_by (λ row. cond (src.is_at p name n row) (F (self_entry by.File row)) 0) p.self_rows
   sum_there F n =
       sum_of_filter F (is_at n) ks
@@ -139,14 +139,14 @@ module _ (p : Contents) (profile : IsProfile p) (name : List ℕ) where
       (is_some-if_any ks n ∙ any_there n)
       ∙ ap (λ t. cond (has_cost p name n) (costs_text t) (codes ".")) (costs_there n)
     where
-      cases : (xs : List Keyed) → costs_or_dot (length p.events) (if_any xs)
+      cases : (xs : List EntryValue) → costs_or_dot (length p.events) (if_any xs)
           ≡ cond (is_some (if_any xs)) (costs_text (costs_of (length p.events) xs)) (codes ".")
       cases [] = refl
       cases (x ∷ xs) = refl
 
   module _ (places : Places) (stands : AreAtPlaces ks places) where
     pub entries_within : AreAllWithin p
-        → All (λ (e : ℕ × Vec Entry Global). AreWithin (length p.events) (said e.1.items)) places.entries
+        → All (λ (e : ℕ × Vec Entry Global). AreWithin (length p.events) (entry_values e.1.items)) places.entries
     entries_within within i d lt =
         let e = get_or places.entries i d in
         subst (AreWithin (length p.events))
@@ -155,10 +155,10 @@ module _ (p : Contents) (profile : IsProfile p) (name : List ℕ) where
 
     -- the lines of a text
     pub lines_there : (lines : List (List ℕ))
-        → flat_map (λ i. costs_or_dot (length p.events) (said_at places (i + 1)) ++ codes " | "
+        → flat_map (λ i. costs_or_dot (length p.events) (values_at places (i + 1)) ++ codes " | "
         ++ map shown_byte (get_or lines i []) ++ codes "\n") (numbers (length lines)) ≡ lines_text p name lines
     lines_there lines =
-        flat_map_agree (λ i. costs_or_dot (length p.events) (said_at places (i + 1)) ++ codes " | "
+        flat_map_agree (λ i. costs_or_dot (length p.events) (values_at places (i + 1)) ++ codes " | "
         ++ map shown_byte (get_or lines i []) ++ codes "\n") (λ i. text_line p name (i + 1) (get_or lines i []))
         (numbers (length lines))
         (λ k d lt. let i = get_or (numbers (length lines)) k d in
@@ -179,12 +179,12 @@ module _ (p : Contents) (profile : IsProfile p) (name : List ℕ) where
 
     -- the lines that it doesn't have
     pub others_there : (count : ℕ)
-        → flat_map (λ (e : ℕ × Vec Entry Global). other_with (length p.events) e.0 (said e.1.items))
+        → flat_map (λ (e : ℕ × Vec Entry Global). other_with (length p.events) e.0 (entry_values e.1.items))
         (filter (λ (e : ℕ × Vec Entry Global). is_outside count e.0) places.entries)
         ≡ others_text p name count
     others_there count =
-        let g : ℕ → List Keyed → List ℕ = λ m xs. cond (is_outside count m) (other_with (length p.events) m xs) [] in
-        flat_map_filter (λ (e : ℕ × Vec Entry Global). other_with (length p.events) e.0 (said e.1.items))
+        let g : ℕ → List EntryValue → List ℕ = λ m xs. cond (is_outside count m) (other_with (length p.events) m xs) [] in
+        flat_map_filter (λ (e : ℕ × Vec Entry Global). other_with (length p.events) e.0 (entry_values e.1.items))
         (λ (e : ℕ × Vec Entry Global). is_outside count e.0) places.entries
         ∙ place_texts ks places stands (lines_end p) at_below g
         ∙ flat_map_filter (λ m. g m (filter (is_at m) ks)) (λ m. list_any (is_at m) ks) (numbers (lines_end p))

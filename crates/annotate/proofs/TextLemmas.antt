@@ -64,19 +64,19 @@ pub last_piece : (ls : List (Bor (List ℕ))) (o : Option (Bor (List ℕ))) → 
     → empty_piece (slice_get (pieces ls) (length ls - 1)) ≡ empty_piece (option_map text_of o)
 last_piece ls o is = ap empty_piece (slice_get-map text_of ls (length ls - 1) ∙ ap (option_map text_of) (sym is))
 
-pub kept : (ls : List (Bor (List ℕ))) → empty_piece (slice_get (pieces ls) (length ls - 1)) ≡ false
+pub last_stays : (ls : List (Bor (List ℕ))) → empty_piece (slice_get (pieces ls) (length ls - 1)) ≡ false
     → pieces ls ≡ without_last_empty (pieces ls)
-kept ls fails = sym (kept_at (length ls - 1) (pieces ls) (let e = length-map ls text_of in omega (arith, e)) fails)
+last_stays ls fails = sym (kept_at (length ls - 1) (pieces ls) (let e = length-map ls text_of in omega (arith, e)) fails)
 
-pub popped : (v w : Vec (Bor (List ℕ)) Global) (r : Option (Bor (List ℕ))) → v.items ≡ w.items ++ option_to_list r
+pub last_goes : (v w : Vec (Bor (List ℕ)) Global) (r : Option (Bor (List ℕ))) → v.items ≡ w.items ++ option_to_list r
     → MatchOption r ((vec_len v ≡ 0) × (vec_len w ≡ 0)) (λ _. vec_len w + 1 ≡ vec_len v)
     → empty_piece (slice_get (pieces v.items) (length v.items - 1)) ≡ true
     → pieces w.items ≡ without_last_empty (pieces v.items)
-popped v w None is lens passes =
+last_goes v w None is lens passes =
     clash (empty_piece (slice_get (pieces v.items) (length v.items - 1))) passes
     (ap empty_piece (slice_get_past (pieces v.items) (length v.items - 1)
     (let e = length-map v.items text_of in let none = lens.0 in omega (arith, e, none))))
-popped v w (Some l) is lens passes =
+last_goes v w (Some l) is lens passes =
     let eq : pieces v.items ≡ pieces w.items ++ l.now ∷ [] = ap pieces is ∙ map-append text_of w.items (l ∷ []) in
     let size : length v.items - 1 ≡ length (pieces w.items ++ l.now ∷ []) - 1 =
     let e = length-map v.items text_of in omega (arith, ap length eq, e) in

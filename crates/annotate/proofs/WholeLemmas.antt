@@ -12,7 +12,7 @@ use Rattle.std.proofs.lemmas.List.FromFn.{get_or-map-range_with_len}
 use Rattle.call_graph.specs.Groups.{Grouping}
 use Rattle.cg_read.specs.Profiles.{Contents}
 use Rattle.cg_read.specs.Totals.{total}
-use Rattle.report_rows.specs.Orders.{IsArranged, cost_at, group_order, is_of, is_shown, least, members, numbers}
+use Rattle.report_rows.specs.Orders.{IsArranged, cost_at, group_order, in_group, is_shown, least, members, numbers}
 use Rattle.report_rows.specs.Ranks.{ArePlaces, AreShown, first_place, is_enough, least_at, rank_order}
 use Rattle.report_rows.specs.Tables.{AreLists, lists}
 use Rattle.report_rows.specs.declared.options.ReportOptions.{ReportOptions}
@@ -26,7 +26,7 @@ members_below n count groups order rows same stands k d lt =
     let size = length-map rows (λ (r : Vec ℕ Global). r.items) in
     let at : get_or (lists rows) k d ≡ members groups order k =
     sym (get_or_default (lists rows) k [] d lt) ∙ stands.exact k (omega (arith, lt, size, stands.size)) in
-    subst (All (λ f. f < n)) (sym at) (All-filter (is_of groups k) (λ f. f < n) order (all_below n order same))
+    subst (All (λ f. f < n)) (sym at) (All-filter (in_group groups k) (λ f. f < n) order (all_below n order same))
 
 pub shown_below : (costs : List (List ℕ)) (options : ReportOptions) (total : ℕ) (ms : List (List ℕ))
     (places shown : List ℕ) → AreShown costs options total ms places shown → All (λ c. c < length costs) shown
@@ -64,7 +64,7 @@ module _ (groups : Grouping) (costs : List (List ℕ)) (order places : List ℕ)
     (places_stand : ArePlaces order places) (rows_stand : AreLists count (members groups order) rows) where
   least_is : (c : ℕ) → c < count → least_at (lists rows) places c ≡ least groups order c
   least_is c lt = ap (first_place places) (rows_stand.exact c lt)
-      ∙ first_passing (is_of groups c) order places places_stand
+      ∙ first_passing (in_group groups c) order places places_stand
 
   order_is : (sort c d : ℕ) → c < count → d < count
       → group_order groups order costs sort c d ≡ rank_order costs sort (lists rows) places c d

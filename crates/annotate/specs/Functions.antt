@@ -3,7 +3,7 @@ use Rattle.std.specs.Prelude.{ℕ, ◌+◌, Bool, ◌==◌, nat_lt, List, [], �
 use Rattle.std.specs.Prelude.{slice_index_or, codes, decimal, count_by, Option, None, Some}
 use Rattle.std.specs.List.{join_by}
 use Rattle.call_graph.specs.Groups.{Grouping, is_member}
-use Rattle.byte_text.specs.Names.{cleaned, unknown}
+use Rattle.byte_text.specs.Names.{clean_name, unknown}
 use Rattle.cg_read.specs.Profiles.{Contents, function_at}
 use Rattle.cg_read.specs.Totals.{total}
 use Rattle.cycles.specs.Costs.{self_cost}
@@ -16,7 +16,7 @@ use Rattle.report_rows.specs.declared.options.ReportOptions.{ReportOptions}
 
 abbrev pub command_text : Option (List ℕ) → List ℕ
 command_text None = unknown
-command_text (Some command) = cleaned command
+command_text (Some command) = clean_name command
 
 abbrev pub command_line : Contents → List ℕ
 command_line p = codes "command: " ++ command_text p.command ++ codes "\n"

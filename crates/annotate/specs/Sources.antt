@@ -2,7 +2,7 @@
 use Rattle.std.specs.Prelude.{ℕ, ◌+◌, Bool, not, ◌&&◌, ◌||◌, ◌==◌, nat_le, if◌then◌else◌, List, [], ◌∷◌, ◌++◌, length}
 use Rattle.std.specs.Prelude.{map, filter, flat_map, fold, max, sum_by, slice_index, slice_index_or, codes, decimal}
 use Rattle.std.specs.List.{list_any, slice_split}
-use Rattle.byte_text.specs.Names.{cleaned, is_printable}
+use Rattle.byte_text.specs.Names.{clean_name, is_printable}
 use Rattle.cg_read.specs.Profiles.{Contents}
 use Rattle.cg_read.specs.declared.rows.SelfRow.{SelfRow}
 use Rattle.annotate.specs.Names.{costs_text}
@@ -79,6 +79,6 @@ found_text p name lines = lines_text p name lines ++ others_text p name (length 
 -- a file, and what is known of its text
 abbrev pub source_text : Contents → List ℕ → Source → List ℕ
 source_text p name (Found text) =
-    codes "\n-- source " ++ cleaned name ++ codes "\n" ++ found_text p name (text_lines text)
-source_text p name Missing = codes "\n-- no source " ++ cleaned name ++ codes "\n"
-source_text p name (TooLong len) = codes "\n-- source too long " ++ cleaned name ++ codes "\n"
+    codes "\n-- source " ++ clean_name name ++ codes "\n" ++ found_text p name (text_lines text)
+source_text p name Missing = codes "\n-- no source " ++ clean_name name ++ codes "\n"
+source_text p name (TooLong len) = codes "\n-- source too long " ++ clean_name name ++ codes "\n"

@@ -3,7 +3,7 @@
 ghost use Rattle.std.specs.Prelude.{◌≡◌, ◌++◌, ◌<◌, ℕ, All, OnOk, codes, decimal, flat_map, filter, length};
 ghost use Rattle.annotate.specs.Calls.{call_line, calls_of, calls_text};
 ghost use Rattle.report_rows.specs.Orders.{members};
-ghost use Rattle.report_rows.specs.Entries.{Keyed, AreWithin, said};
+ghost use Rattle.report_rows.specs.Entries.{EntryValue, AreWithin, entry_values};
 ghost use Rattle.report_rows.specs.Lists.{AreCallLists};
 ghost use Rattle.annotate.specs.inner.Layout.{AreFunctions, AreNeighbours, IsCalls, IsView};
 ghost use Rattle.annotate.specs.inner.Layout.{cost_between, mark_of, neighbour_line, neighbours_text, side_text};
@@ -11,7 +11,7 @@ ghost use Rattle.annotate.specs.inner.Layout.{cost_between, mark_of, neighbour_l
 use crate::names::push_costs;
 use crate::view::View;
 use byte_text::{OutOfMemory, Text};
-use report_rows::{End, Entry, Tree, by_place, listed, sum_of};
+use report_rows::{End, Entry, Tree, by_place, into_list, sum_of};
 use std::alloc::Global;
 
 /// What the lines of calls are made of: the calls of each function and by each function, at the places of the functions
@@ -68,9 +68,9 @@ impl Calls<'_> {
         requires view { IsView self.now.view.now }
         requires function { function < length self.now.view.now.profile.now.functions }
         requires other { other < length self.now.view.now.profile.now.functions }
-        requires within { AreWithin (length self.now.view.now.profile.now.events) (said rows.now) }
+        requires within { AreWithin (length self.now.view.now.profile.now.events) (entry_values rows.now) }
         ensures { OnOk result (text.new ≡ text.old
-            ++ neighbour_line self.now.view.now mark.now function other (said rows.now)) }
+            ++ neighbour_line self.now.view.now mark.now function other (entry_values rows.now)) }
     {
         let view = self.view;
         let profile = view.profile;
@@ -96,12 +96,12 @@ impl Calls<'_> {
     ) -> Result<(), OutOfMemory>
         requires calls { IsCalls self.now }
         requires function { function < length self.now.view.now.profile.now.functions }
-        requires rows { AreNeighbours self.now.view.now (said rows.now) }
+        requires rows { AreNeighbours self.now.view.now (entry_values rows.now) }
         ensures { OnOk result (text.new ≡ text.old
-            ++ neighbours_text self.now.view.now mark.now function (said rows.now)) }
+            ++ neighbours_text self.now.view.now mark.now function (entry_values rows.now)) }
     {
         let functions = self.view.functions;
-        let places = listed(alloc, by_place(alloc, rows)?)?;
+        let places = into_list(alloc, by_place(alloc, rows)?)?;
         'places: for (place, rows) in &places {
             let other = functions[*place as usize];
             self.put_call(alloc, text, mark, function, other, rows)?;

@@ -4,8 +4,8 @@ ghost use Rattle.std.specs.Prelude.{◌≡◌, ℕ};
 ghost use Rattle.annotate.specs.declared.error.ReportError.TheVariants.{OutOfMemory as NoMemory};
 ghost use Rattle.annotate.specs.inner.Errors.{report_error};
 
-use cycles::InclError;
 use byte_text::OutOfMemory;
+use cycles::InclError;
 use thiserror::Error;
 
 /// Why there is no report.

@@ -2,9 +2,9 @@
 
 ghost use Rattle.std.specs.Prelude.{◌≡◌, ◌++◌, codes, All, IfOk, OnOk, map};
 ghost use Rattle.std.specs.List.{join_by};
-ghost use Rattle.byte_text.specs.Names.{cleaned};
+ghost use Rattle.byte_text.specs.Names.{clean_name};
 ghost use Rattle.annotate.specs.Names.{costs_text, name_text, object_text};
-ghost use Rattle.report_rows.specs.Entries.{AreWithin, costs_of, said};
+ghost use Rattle.report_rows.specs.Entries.{AreWithin, costs_of, entry_values};
 
 use byte_text::{OutOfMemory, Text, clean_name};
 use cg_read::FuncKey;
@@ -13,7 +13,7 @@ use std::alloc::Global;
 
 /// Appends the cleaned form of a name.
 pub(crate) fn push_clean(alloc: Global, text: &mut Text, name: &[u8]) -> Result<(), OutOfMemory>
-    ensures { OnOk result (text.new ≡ text.old ++ cleaned name.now) }
+    ensures { OnOk result (text.new ≡ text.old ++ clean_name name.now) }
 {
     let name = clean_name(alloc, name)?;
     text.push(name.as_bytes())
@@ -82,8 +82,8 @@ pub(crate) fn push_sums(
     events: usize,
     entries: &[Entry<'_>],
 ) -> Result<(), OutOfMemory>
-    requires { AreWithin events (said entries.now) }
-    ensures { OnOk result (text.new ≡ text.old ++ costs_text (costs_of events (said entries.now))) }
+    requires { AreWithin events (entry_values entries.now) }
+    ensures { OnOk result (text.new ≡ text.old ++ costs_text (costs_of events (entry_values entries.now))) }
 {
     let sum = sum_of(alloc, events, entries)?;
     push_costs(text, &sum.cost)
@@ -95,9 +95,9 @@ pub(crate) fn sum_texts(
     events: usize,
     lists: &[Vec<Entry<'_>>],
 ) -> Result<Vec<Text>, OutOfMemory>
-    requires { All (λ entries. AreWithin events (said entries.items)) lists.now }
+    requires { All (λ entries. AreWithin events (entry_values entries.items)) lists.now }
     ensures { IfOk result (λ texts. texts.items
-        ≡ map (λ entries. costs_text (costs_of events (said entries.items))) lists.now) }
+        ≡ map (λ entries. costs_text (costs_of events (entry_values entries.items))) lists.now) }
 {
     let mut texts = Vec::with_capacity(alloc, lists.len())?;
     'lists: for entries in lists {

@@ -3,12 +3,12 @@
 ghost use Rattle.std.specs.Prelude.{◌≡◌, ◌++◌, ◌+◌, ◌<◌, ℕ, [], All, IfOk, IfSome, OnOk, codes, flat_map};
 ghost use Rattle.std.specs.Prelude.{filter, length, ◌==◌, map, slice_index_or, option_map};
 ghost use Rattle.std.specs.List.{slice_split};
-ghost use Rattle.byte_text.specs.Names.{cleaned};
+ghost use Rattle.byte_text.specs.Names.{clean_name};
 ghost use Rattle.cg_read.specs.Profiles.{IsProfile};
 ghost use Rattle.cycles.specs.Limits.{AreAllWithin};
 ghost use Rattle.report_rows.specs.Orders.{numbers};
 ghost use Rattle.annotate.specs.Sources.{found_text, shown_byte, source_text, text_lines};
-ghost use Rattle.report_rows.specs.Entries.{AreWithin, said, said_at};
+ghost use Rattle.report_rows.specs.Entries.{AreWithin, entry_values, values_at};
 ghost use Rattle.report_rows.specs.Lists.{AreFileLists};
 ghost use Rattle.annotate.specs.inner.SourceRows.{AreNumbersOf, AreRowsOfFile, costs_or_dot, is_outside, other_with};
 ghost use Rattle.annotate.specs.inner.SourceRows.{pieces};
@@ -17,7 +17,7 @@ use crate::names::{push_clean, push_sums};
 use crate::source::{Source, Texts};
 use byte_text::{OutOfMemory, Text, TextRef};
 use cg_read::Profile;
-use report_rows::{Entry, by_place, file_lists, listed};
+use report_rows::{Entry, by_place, file_lists, into_list};
 use std::alloc::Global;
 use std::collections::BTreeMap;
 
@@ -73,9 +73,9 @@ fn put_line(
     rows: Option<&Vec<Entry<'_>>>,
     line: &[u8],
 ) -> Result<(), OutOfMemory>
-    requires { IfSome rows (λ entries. AreWithin events (said entries.now.items)) }
+    requires { IfSome rows (λ entries. AreWithin events (entry_values entries.now.items)) }
     ensures { OnOk result (text.new ≡ text.old
-        ++ (costs_or_dot events (option_map (λ entries. said entries.now.items) rows.entry)
+        ++ (costs_or_dot events (option_map (λ entries. entry_values entries.now.items) rows.entry)
         ++ codes " | " ++ map shown_byte line.now ++ codes "\n")) }
 {
     match rows {
@@ -95,9 +95,9 @@ fn put_lines(
     rows: &Lines<'_>,
     lines: &[&[u8]],
 ) -> Result<(), OutOfMemory>
-    requires { (n : ℕ) → IfSome (said_at rows.now n) (AreWithin events) }
+    requires { (n : ℕ) → IfSome (values_at rows.now n) (AreWithin events) }
     ensures { OnOk result (text.new ≡ text.old
-        ++ flat_map (λ i. costs_or_dot events (said_at rows.now (i + 1)) ++ codes " | "
+        ++ flat_map (λ i. costs_or_dot events (values_at rows.now (i + 1)) ++ codes " | "
         ++ map shown_byte (slice_index_or (pieces lines.now) i []) ++ codes "\n") (numbers (length lines.now))) }
 {
     'lines: for (i, line) in lines.iter().enumerate() {
@@ -114,8 +114,8 @@ fn put_others(
     rows: &[(u64, Vec<Entry<'_>>)],
     count: u64,
 ) -> Result<(), OutOfMemory>
-    requires { All (λ e. AreWithin events (said e.1.items)) rows.now }
-    ensures { OnOk result (text.new ≡ text.old ++ flat_map (λ e. other_with events e.0 (said e.1.items))
+    requires { All (λ e. AreWithin events (entry_values e.1.items)) rows.now }
+    ensures { OnOk result (text.new ≡ text.old ++ flat_map (λ e. other_with events e.0 (entry_values e.1.items))
         (filter (λ e. is_outside count e.0) rows.now)) }
 {
     'lines: for (line, rows) in rows {
@@ -139,7 +139,7 @@ fn put_found(
     source: &[u8],
 ) -> Result<(), OutOfMemory>
     requires within { AreAllWithin profile.now }
-    requires rows { AreRowsOfFile profile.now _name.now (said rows.now) }
+    requires rows { AreRowsOfFile profile.now _name.now (entry_values rows.now) }
     ensures { OnOk result (text.new ≡ text.old ++ found_text profile.now _name.now (text_lines source.now)) }
 {
     let events = profile.events.len();
@@ -150,14 +150,14 @@ fn put_found(
         alloc,
         text,
         events,
-        &listed(alloc, rows)?,
+        &into_list(alloc, rows)?,
         lines.len() as u64,
     )
 }
 
 /// Writes a line on a file.
 fn put_file(alloc: Global, text: &mut Text, mark: &[u8], name: &Text) -> Result<(), OutOfMemory>
-    ensures { OnOk result (text.new ≡ text.old ++ (mark.now ++ cleaned name.now ++ codes "\n")) }
+    ensures { OnOk result (text.new ≡ text.old ++ (mark.now ++ clean_name name.now ++ codes "\n")) }
 {
     text.push(mark)?;
     push_clean(alloc, text, name.as_bytes())?;
@@ -174,7 +174,7 @@ fn put_source(
     source: &Source,
 ) -> Result<(), OutOfMemory>
     requires within { AreAllWithin profile.now }
-    requires rows { AreRowsOfFile profile.now name.now (said rows.now) }
+    requires rows { AreRowsOfFile profile.now name.now (entry_values rows.now) }
     ensures { OnOk result (text.new ≡ text.old ++ source_text profile.now name.now source.now) }
 {
     match source {
@@ -212,7 +212,7 @@ fn rows_of<'r, 'a, 'n>(
     requires profile { IsProfile profile.now }
     requires files { AreNumbersOf profile.now.files numbers.now }
     requires rows { AreFileLists profile.now rows.now }
-    ensures { AreRowsOfFile profile.now name.now (said result.now) }
+    ensures { AreRowsOfFile profile.now name.now (entry_values result.now) }
 {
     match numbers.get(&name.as_ref()) {
         Some(number) => rows[*number].as_slice(),

@@ -13,7 +13,7 @@ use Rattle.arc_costs.specs.Arcs.{has_arc, is_some_arc, plus_arc}
 use Rattle.arc_costs.specs.Amounts.{amount_at, has_key, key_of}
 use Rattle.arc_costs.specs.Contents.{arc_row}
 use Rattle.event_costs.specs.Order.{same_arc}
-use Rattle.arc_costs.specs.Totals.{Fits, add_total, cleared, is_some_cost, nothing, sum_of_totals}
+use Rattle.arc_costs.specs.Totals.{Fits, add_total, clear_totals, is_some_cost, nothing, sum_of_totals}
 use Rattle.arc_costs.specs.inner.Shape.{AllWhole}
 use Rattle.arc_costs.specs.inner.Sums.{IsWholeTotal}
 use Rattle.arc_costs.specs.Rows.{ArcRow}
@@ -119,7 +119,7 @@ one_more_arc es arc t all one additions stands =
     arcs_stand (map arc_row es) (map arc_row (add_total same_arc es arc t)) additions (arc_row (arc, t) ∷ [])
     (arc_counted es arc t) (arc_added es arc t all one) stands
 
-pub arcs-cleared : (es : List (ArcKey × Total)) → map arc_row (cleared es) ≡ cleared_arcs (map arc_row es)
+pub arcs-cleared : (es : List (ArcKey × Total)) → map arc_row (clear_totals es) ≡ cleared_arcs (map arc_row es)
 arcs-cleared [] = refl
 arcs-cleared (e ∷ es) = ap (λ rows. cost_of_arc e.0 no_cost ∷ rows) (arcs-cleared es)
 

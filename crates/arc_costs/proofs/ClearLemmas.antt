@@ -4,7 +4,7 @@ use Rattle.std.proofs.Common.{refl, sym, ap, subst, ◌∙◌, arith, if◌then�
 use Rattle.std.specs.Map.{lookup}
 use Rattle.std.proofs.lemmas.List.{append-nil, map-append}
 use Rattle.indexmap.specs.IndexMap.{set_value_at}
-use Rattle.arc_costs.specs.Amounts.{emptied}
+use Rattle.arc_costs.specs.Amounts.{clear_amounts}
 use Rattle.arc_costs.specs.inner.Shape.{all_rows, AllWhole, IsSound}
 use Rattle.arc_costs.proofs.EntryLemmas.{IsAbsent, absent_lookup, lookup_absent}
 
@@ -30,7 +30,7 @@ module _ {K A : Type 0} (nothing : A) where
       → set_value_at (cleared_first i es) i nothing ≡ cleared_first (i + 1) es
   cleared_next i es = let next : suc i ≡ i + 1 = omega arith in cleared_more i es ∙ ap (λ n. cleared_first n es) next
 
-  pub cleared_all : (es : List (K × A)) → cleared_first (length es) es ≡ emptied nothing es
+  pub cleared_all : (es : List (K × A)) → cleared_first (length es) es ≡ clear_amounts nothing es
   cleared_all [] = refl
   cleared_all (e ∷ es) = ap (λ fs. (e.0, nothing) ∷ fs) (cleared_all es)
 
@@ -40,12 +40,12 @@ module _ {K A : Type 0} (nothing : A) where
   cleared_slot (Some row) = Some (row.0, nothing)
 
   pub cleared_rows : (known : List (K × A)) (newest : Option (K × A))
-      → all_rows (emptied nothing known) (cleared_slot newest) ≡ emptied nothing (all_rows known newest)
-  cleared_rows known None = append-nil (emptied nothing known) ∙ ap (emptied nothing) (sym (append-nil known))
+      → all_rows (clear_amounts nothing known) (cleared_slot newest) ≡ clear_amounts nothing (all_rows known newest)
+  cleared_rows known None = append-nil (clear_amounts nothing known) ∙ ap (clear_amounts nothing) (sym (append-nil known))
   cleared_rows known (Some row) = sym (map-append (λ (e : K × A). (e.0, nothing)) known (row ∷ []))
 
   pub whole-cleared : (is_whole : A → Type 0) → is_whole nothing → (es : List (K × A))
-      → AllWhole is_whole (emptied nothing es)
+      → AllWhole is_whole (clear_amounts nothing es)
   whole-cleared is_whole none [] = tt
   whole-cleared is_whole none (e ∷ es) = (none, whole-cleared is_whole none es)
 
@@ -55,20 +55,20 @@ module _ {K A : Type 0} (nothing : A) where
   cleared_room (Some row) = refl
 
   module _ (same : K → K → Bool) where
-    absent-cleared : (k : K) (es : List (K × A)) → IsAbsent same k es → IsAbsent same k (emptied nothing es)
+    absent-cleared : (k : K) (es : List (K × A)) → IsAbsent same k es → IsAbsent same k (clear_amounts nothing es)
     absent-cleared k [] absent = tt
     absent-cleared k (e ∷ es) absent = (absent.0, absent-cleared k es absent.1)
 
     apart-cleared : (known : List (K × A)) (newest : Option (K × A))
         → IfSome newest (λ row. lookup (same row.0) known ≡ None)
-        → IfSome (cleared_slot newest) (λ row. lookup (same row.0) (emptied nothing known) ≡ None)
+        → IfSome (cleared_slot newest) (λ row. lookup (same row.0) (clear_amounts nothing known) ≡ None)
     apart-cleared known None apart = tt
     apart-cleared known (Some row) apart =
-        lookup_absent same row.0 (emptied nothing known)
+        lookup_absent same row.0 (clear_amounts nothing known)
         (absent-cleared row.0 known (absent_lookup same row.0 known apart))
 
     pub sound-cleared : (is_whole : A → Type 0) → is_whole nothing → (known : List (K × A)) (newest : Option (K × A))
-        → IsSound same is_whole known newest → IsSound same is_whole (emptied nothing known) (cleared_slot newest)
+        → IsSound same is_whole known newest → IsSound same is_whole (clear_amounts nothing known) (cleared_slot newest)
     sound-cleared is_whole none known newest sound = record {
       apart = apart-cleared known newest sound.apart;
       whole =

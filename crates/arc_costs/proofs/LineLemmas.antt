@@ -9,7 +9,7 @@ use Rattle.std.proofs.lemmas.Cmp.{and_equiv, nat_eq_equiv, on_equiv}
 use Rattle.std.proofs.lemmas.List.Sorted.{sum_by-IsPermutation}
 use Rattle.event_costs.specs.Costs.{event_kinds, IsWhole, no_cost, sum_of_costs}
 use Rattle.event_costs.specs.Keys.{Place}
-use Rattle.arc_costs.specs.Amounts.{add_amount, amount_at, emptied, has_key, key_of}
+use Rattle.arc_costs.specs.Amounts.{add_amount, amount_at, clear_amounts, has_key, key_of}
 use Rattle.arc_costs.specs.Contents.{cost_row}
 use Rattle.arc_costs.specs.inner.Shape.{AllWhole}
 use Rattle.arc_costs.specs.inner.Sums.{CanAddCost}
@@ -82,7 +82,7 @@ lines_stand lines now additions news sums stands event place =
     let all = sum_at-append place_of same_place (λ row. get_or row.cost event 0) place additions news in
     omega (arith, all, sums event place, stands event place)
 
-pub lines-cleared : (es : List (Place × List ℕ)) → map cost_row (emptied no_cost es) ≡ cleared_lines (map cost_row es)
+pub lines-cleared : (es : List (Place × List ℕ)) → map cost_row (clear_amounts no_cost es) ≡ cleared_lines (map cost_row es)
 lines-cleared [] = refl
 lines-cleared (e ∷ es) = ap (λ rows. line e.0 no_cost ∷ rows) (lines-cleared es)
 

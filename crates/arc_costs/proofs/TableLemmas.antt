@@ -7,7 +7,7 @@ use Rattle.std.specs.Option.{option_to_list}
 use Rattle.indexmap.specs.IndexMap.{set_value_at}
 use Rattle.arc_costs.specs.Amounts.{add_amount, amount_at, has_key}
 use Rattle.arc_costs.specs.Contents.{Entries}
-use Rattle.arc_costs.specs.inner.Shape.{all_rows, AllWhole, IsSound, seen}
+use Rattle.arc_costs.specs.inner.Shape.{all_rows, AllWhole, IsSound, table_entries}
 use Rattle.arc_costs.proofs.EntryLemmas.{IsAbsent, IsAt, absent_lookup, absent-set_value_at, add_at, add_past, at_front}
 use Rattle.arc_costs.proofs.EntryLemmas.{has_key_at, has_key_past, lookup_absent, lookup_at, lookup_past}
 use Rattle.arc_costs.proofs.EntryLemmas.{at_past, at_written, place_at, whole-add_amount}
@@ -25,7 +25,7 @@ unfound {K} {A} same k known r none found =
 -- an addition of an amount to the table as it is seen before
 module _ {K A : Type 0} (same : K → K → Bool) (plus : A → A → A) (nothing : A) (k : K) (amount : A)
     (known : List (K × A)) (newest : Option (K × A)) (ahead : ℕ) (table : Entries K A)
-    (is : seen known newest ahead ≡ table) where
+    (is : table_entries known newest ahead ≡ table) where
   rows_are : all_rows known newest ≡ table.rows
   rows_are = ap (λ v. v.rows) is
 

@@ -8,8 +8,8 @@ module _ {K A : Type 0} where
   key_of row = row.0
 
   -- every row with its key and nothing
-  abbrev pub emptied : A → List (K × A) → List (K × A)
-  emptied nothing entries = map (λ e. (e.0, nothing)) entries
+  abbrev pub clear_amounts : A → List (K × A) → List (K × A)
+  clear_amounts nothing entries = map (λ e. (e.0, nothing)) entries
 
   module _ (same : K → K → Bool) where
     abbrev pub has_key : K → List (K × A) → Bool

@@ -36,8 +36,8 @@ Fits cost = All (λ n. n < 2 ^ 64) cost
 
 module _ {K : Type 0} where
   -- every row with its key and a total of 0
-  abbrev pub cleared : List (K × Total) → List (K × Total)
-  cleared entries = amounts.emptied nothing entries
+  abbrev pub clear_totals : List (K × Total) → List (K × Total)
+  clear_totals entries = amounts.clear_amounts nothing entries
 
   module _ (same : K → K → Bool) where
     abbrev pub add_total : List (K × Total) → K → Total → List (K × Total)

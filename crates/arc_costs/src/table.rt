@@ -6,7 +6,7 @@ ghost use Rattle.std.specs.Prelude.{length, position, if◌then◌else◌, IsPer
 ghost use Rattle.std.specs.List.{IsDistinct};
 ghost use Rattle.std.specs.List.Sorted.{IsStrictlySortedBy};
 ghost use Rattle.std.specs.Map.{keys_of, lookup};
-ghost use Rattle.arc_costs.specs.Amounts.{add_amount, amount_at, emptied, has_key};
+ghost use Rattle.arc_costs.specs.Amounts.{add_amount, amount_at, clear_amounts, has_key};
 ghost use Rattle.arc_costs.specs.inner.Shape.{AllWhole};
 
 use crate::amount::{Amount, Part};
@@ -27,11 +27,11 @@ pub struct Table<K: Digits, A: Amount> {
 
 impl<K: Digits, A: Amount> Model for Table<K, A> {
     ghost use Rattle.arc_costs.specs.Contents.{Entries};
-    ghost use Rattle.arc_costs.specs.inner.Shape.{IsSound, seen};
+    ghost use Rattle.arc_costs.specs.inner.Shape.{IsSound, table_entries};
 
     ghost Value = { Entries K A };
 
-    ghost view = { λ t. seen t.known.entries t.newest t.known.spare };
+    ghost view = { λ t. table_entries t.known.entries t.newest t.known.spare };
 
     ghost invariant = { λ t. IsSound K.eq A.is_whole t.known.entries t.newest };
 }
@@ -154,7 +154,7 @@ impl<K: Digits, A: Amount> Table<K, A> {
 
     /// Makes every amount nothing. The keys stay.
     pub fn clear(&mut self)
-        ensures rows { self.new.rows ≡ emptied A.nothing self.old.rows }
+        ensures rows { self.new.rows ≡ clear_amounts A.nothing self.old.rows }
         ensures room { self.new.room ≡ self.old.room }
     {
         'rows: for index in 0..self.known.len() {
@@ -166,7 +166,7 @@ impl<K: Digits, A: Amount> Table<K, A> {
     }
 
     /// The rows that aren't nothing, in order of first addition.
-    fn listed(&self) -> Result<Vec<(K, A)>, OutOfMemory>
+    fn list_rows(&self) -> Result<Vec<(K, A)>, OutOfMemory>
         ensures rows { IfOk result (λ v. v.items ≡ filter (λ e. A.is_some e.1) self.now.rows) }
         ensures apart { IsDistinct K.eq (keys_of self.now.rows) }
         ensures whole { AllWhole A.is_whole self.now.rows }
@@ -193,6 +193,6 @@ impl<K: Digits, A: Amount> Table<K, A> {
         ensures rise { IfOk result (λ v. IsStrictlySortedBy K.cmp (keys_of v.items)) }
         ensures whole { AllWhole A.is_whole self.now.rows }
     {
-        sorted_by_key(self.listed()?)
+        sorted_by_key(self.list_rows()?)
     }
 }

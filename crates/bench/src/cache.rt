@@ -23,7 +23,7 @@ pub fn references(alloc: Global, word: &str, numbers: &[u32]) -> Option<u64> {
     let &[size, assoc, line, count] = numbers else {
         return None;
     };
-    let pattern = Pattern::named(word)?;
+    let pattern = Pattern::of_name(word)?;
     let shape = Geometry::new(size, assoc, line)?;
     let Ok(mut cache) = Cache::new(alloc, shape) else {
         return None;
@@ -41,7 +41,7 @@ enum Kind {
 }
 
 impl Kind {
-    fn named(name: &str) -> Option<Kind> {
+    fn of_name(name: &str) -> Option<Kind> {
         match name {
             "conditional" => Some(Kind::Conditional),
             "indirect" => Some(Kind::Indirect),
@@ -87,7 +87,7 @@ pub fn branches(alloc: Global, word: &str, numbers: &[u32]) -> Option<u64> {
     let &[count] = numbers else {
         return None;
     };
-    let kind = Kind::named(word)?;
+    let kind = Kind::of_name(word)?;
     let Ok(mut predictors) = Predictors::new(alloc) else {
         return None;
     };

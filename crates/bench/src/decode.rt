@@ -13,7 +13,7 @@ enum Form {
 }
 
 /// The next number of a linear congruential generator.
-fn drawn(seed: u32) -> u32 {
+fn next_random(seed: u32) -> u32 {
     seed.wrapping_mul(1_664_525).wrapping_add(1_013_904_223)
 }
 
@@ -37,7 +37,7 @@ fn run(form: Form, count: u32) -> u32 {
     let mut seed = 1;
     let mut sum = 0u32;
     for turn in 0..count {
-        seed = drawn(seed);
+        seed = next_random(seed);
         let row = ROWS[(turn % 59) as usize];
         let word = row.bits | (seed & !row.mask);
         sum = sum.wrapping_add(decoded_digest(form, word));

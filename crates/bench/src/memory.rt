@@ -11,7 +11,7 @@ const FIRST: u32 = 0x1_0000;
 const PAGES: u32 = 64;
 
 /// The place of a call: a step of seven words through the pages.
-fn place(round: u64) -> u32 {
+fn address_of(round: u64) -> u32 {
     FIRST + ((round % 65_536 * 7 % 65_536) * 4) as u32
 }
 
@@ -20,7 +20,7 @@ fn place(round: u64) -> u32 {
 fn fetches(memory: &GuestMem, rounds: u64) -> u32 {
     let mut sum = 0u32;
     for round in 0..rounds {
-        sum = sum.wrapping_add(memory.fetch(place(round)).unwrap_or(1));
+        sum = sum.wrapping_add(memory.fetch(address_of(round)).unwrap_or(1));
     }
     sum
 }
@@ -29,7 +29,7 @@ fn fetches(memory: &GuestMem, rounds: u64) -> u32 {
 fn loads(memory: &GuestMem, rounds: u64) -> u32 {
     let mut sum = 0u32;
     for round in 0..rounds {
-        sum = sum.wrapping_add(memory.load32(place(round)).unwrap_or(1));
+        sum = sum.wrapping_add(memory.load32(address_of(round)).unwrap_or(1));
     }
     sum
 }
@@ -39,7 +39,7 @@ fn stores(memory: &mut GuestMem, rounds: u64) -> u32 {
     let mut sum = 0u32;
     for round in 0..rounds {
         let value = (round % 65_536) as u32;
-        if memory.store32(place(round), value).is_ok() {
+        if memory.store32(address_of(round), value).is_ok() {
             sum = sum.wrapping_add(value);
         }
     }
@@ -50,7 +50,7 @@ fn stores(memory: &mut GuestMem, rounds: u64) -> u32 {
 fn empty_rounds(rounds: u64) -> u32 {
     let mut sum = 0u32;
     for round in 0..rounds {
-        sum = sum.wrapping_add(place(round));
+        sum = sum.wrapping_add(address_of(round));
     }
     sum
 }

@@ -16,7 +16,7 @@ const BYTES: u32 = 16;
 
 /// Where the functions are, and those that a run stops after: none.
 #[derive(Clone, Copy)]
-struct Known<'a> {
+struct NoteInputs<'a> {
     syms: &'a SymMap,
     nothing: &'a FuncSet,
 }
@@ -36,7 +36,7 @@ struct Plan {
 fn take(
     track: &mut Track,
     event: &Event,
-    known: Known<'_>,
+    known: NoteInputs<'_>,
     is_noted: bool,
 ) -> Result<(), OutOfMemory> {
     track.ready(event.thread.0)?;
@@ -72,7 +72,12 @@ fn steps_of(form: &str) -> Option<[(Flow, u32, u32); 2]> {
 }
 
 /// Begins a thread that goes into the recursion.
-fn begin(track: &mut Track, thread: u32, known: Known<'_>, depth: u32) -> Result<(), OutOfMemory> {
+fn begin(
+    track: &mut Track,
+    thread: u32,
+    known: NoteInputs<'_>,
+    depth: u32,
+) -> Result<(), OutOfMemory> {
     track.start(thread, FUNCTION, known.syms)?;
     for k in 0..depth {
         take(track, &call(thread, pointer_at(k, BYTES)), known, true)?;
@@ -95,7 +100,7 @@ fn event_of(plan: &Plan, turn: u32) -> Event
 }
 
 /// Begins the threads, and notes their events.
-fn note(track: &mut Track, plan: &Plan, known: Known<'_>) -> Result<(), OutOfMemory>
+fn note(track: &mut Track, plan: &Plan, known: NoteInputs<'_>) -> Result<(), OutOfMemory>
     requires { 0 < plan.now.threads }
 {
     'threads: for thread in 1..=plan.threads {
@@ -118,13 +123,13 @@ fn costs_of(track: &mut Track, threads: u32) -> Result<u64, OutOfMemory> {
     Ok(sum)
 }
 
-fn noted(alloc: Global, plan: &Plan, syms: &SymMap) -> Result<u64, OutOfMemory>
+fn run_notes(alloc: Global, plan: &Plan, syms: &SymMap) -> Result<u64, OutOfMemory>
     requires { 0 < plan.now.threads }
 {
     let nothing = FuncSet {
         items: Vec::new(alloc),
     };
-    let known = Known {
+    let known = NoteInputs {
         syms,
         nothing: &nothing,
     };
@@ -151,5 +156,5 @@ pub fn notes(alloc: Global, file: &[u8], form: &str, numbers: &[u32]) -> Option<
         steps: steps_of(form)?,
     };
     let syms = map_of(alloc, file)?;
-    noted(alloc, &plan, &syms).ok()
+    run_notes(alloc, &plan, &syms).ok()
 }

@@ -17,7 +17,7 @@ pub enum Pattern {
 }
 
 impl Pattern {
-    pub fn named(name: &str) -> Option<Pattern> {
+    pub fn of_name(name: &str) -> Option<Pattern> {
         match name {
             "sequential" => Some(Pattern::Sequential),
             "random" => Some(Pattern::Random),

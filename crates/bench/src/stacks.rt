@@ -14,18 +14,18 @@ use sym_map::SymMap;
 
 /// How often arcs were told, and the instructions of those that were closed.
 #[derive(Clone, Copy)]
-struct Told {
+struct ArcCounts {
     pushed: u64,
     closed: u64,
     instructions: u64,
 }
 
-impl ArcSink for Told {
+impl ArcSink for ArcCounts {
     ghost use Rattle.std.specs.Prelude.{⊤};
 
     ghost can_take = { λ _ _. ⊤ };
 
-    ghost told = { λ _ _ _. ⊤ };
+    ghost takes = { λ _ _ _. ⊤ };
 
     fn pushed(&mut self, _arc: &ArcKey) {
         self.pushed = self.pushed.wrapping_add(1);
@@ -46,7 +46,7 @@ impl ArcSink for Told {
 struct Walk {
     stack: ShadowStack,
     total: Cost,
-    told: Told,
+    told: ArcCounts,
 }
 
 impl Model for Walk {
@@ -79,7 +79,7 @@ impl Walk {
         Ok(Walk {
             stack: ShadowStack::new(alloc, FuncId(1), &total)?,
             total,
-            told: Told {
+            told: ArcCounts {
                 pushed: 0,
                 closed: 0,
                 instructions: 0,

@@ -56,7 +56,7 @@ static CALLS: [u32; 9] = [
 ];
 
 /// Puts words into memory, where it is mapped.
-pub fn place(memory: &mut GuestMem, start: u32, words: &[u32]) {
+pub fn put_words(memory: &mut GuestMem, start: u32, words: &[u32]) {
     let mut at = start;
     for word in words {
         if memory.may(at, 4, 0) {
@@ -99,7 +99,7 @@ pub fn steps(alloc: Global, word: &str, numbers: &[u32]) -> Option<u64> {
     let code = code_of(word)?;
     let mut memory = pages(alloc, DATA, 16, READ | WRITE)?;
     memory.map(CODE, 1, READ | EXECUTE).ok()?;
-    place(&mut memory, CODE, code);
+    put_words(&mut memory, CODE, code);
     let mut regs = Regs {
         pc: CODE,
         x: [0; 32],

@@ -1,7 +1,7 @@
 //! Runs a machine whose threads execute a loop of arithmetic.
 
 use crate::memory::pages;
-use crate::steps::{ARITHMETIC, CODE, place};
+use crate::steps::{ARITHMETIC, CODE, put_words};
 use event_costs::{Regs, ThreadNo};
 use guest_load::{Guest, Thread};
 use guest_mem::{EXECUTE, GuestMem, READ, WRITE};
@@ -21,8 +21,8 @@ static MAKE_THREADS: [u32; 7] = [
 
 fn code(alloc: Global) -> Option<GuestMem> {
     let mut memory = pages(alloc, CODE, 1, READ | WRITE | EXECUTE)?;
-    place(&mut memory, CODE, &MAKE_THREADS);
-    place(&mut memory, CODE + 28, &ARITHMETIC);
+    put_words(&mut memory, CODE, &MAKE_THREADS);
+    put_words(&mut memory, CODE + 28, &ARITHMETIC);
     Some(memory)
 }
 

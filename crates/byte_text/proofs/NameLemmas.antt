@@ -4,7 +4,7 @@ use Rattle.std.proofs.Common.{zero-add, arith}
 use Rattle.std.proofs.lemmas.List.{take_more, map-append, take_all}
 use Rattle.std.proofs.lemmas.List.FromFn.{get_or-enumerate_from, length-enumerate_from}
 use Rattle.std.specs.List.{enumerate_from}
-use Rattle.byte_text.specs.Names.{cleaned, cleaned_byte}
+use Rattle.byte_text.specs.Names.{clean_name, clean_byte}
 
 -- one more byte of a list that a function of the place and the byte makes
 pub map_enumerated_more : (f : ℕ → ℕ → ℕ) (xs : List ℕ) (place : ℕ) → place < length xs
@@ -20,8 +20,8 @@ map_enumerated_more f xs place lt =
 
 -- the cleaned form of a name that isn't empty
 pub cleaned_whole : (name : List ℕ) (place : ℕ) → name ≢ [] → length name ≤ place
-    → map (λ p. cleaned_byte (length name) p.0 p.1) (take place (enumerate_from 0 name)) ≡ cleaned name
+    → map (λ p. clean_byte (length name) p.0 p.1) (take place (enumerate_from 0 name)) ≡ clean_name name
 cleaned_whole [] place some end = absurd (some refl)
 cleaned_whole (byte ∷ bytes) place some end =
-    ap (map (λ p. cleaned_byte (length (byte ∷ bytes)) p.0 p.1))
+    ap (map (λ p. clean_byte (length (byte ∷ bytes)) p.0 p.1))
     (take_all place (enumerate_from 0 (byte ∷ bytes)) (let e = length-enumerate_from 0 (byte ∷ bytes) in omega arith))

@@ -12,14 +12,14 @@ abbrev pub stays : ℕ → ℕ → ℕ → Bool
 stays len place byte = is_printable byte && not (byte == 0x20 && (place == 0 || place + 1 == len))
 
 -- any other byte becomes a question mark
-abbrev pub cleaned_byte : ℕ → ℕ → ℕ → ℕ
-cleaned_byte len place byte = if stays len place byte then byte else 0x3f
+abbrev pub clean_byte : ℕ → ℕ → ℕ → ℕ
+clean_byte len place byte = if stays len place byte then byte else 0x3f
 
 -- what stands for a name that isn't known
 abbrev pub unknown : List ℕ
 unknown = codes "???"
 
-abbrev pub cleaned : List ℕ → List ℕ
-cleaned [] = unknown
-cleaned (byte ∷ bytes) =
-    let name = byte ∷ bytes in map (λ p. cleaned_byte (length name) p.0 p.1) (enumerate_from 0 name)
+abbrev pub clean_name : List ℕ → List ℕ
+clean_name [] = unknown
+clean_name (byte ∷ bytes) =
+    let name = byte ∷ bytes in map (λ p. clean_byte (length name) p.0 p.1) (enumerate_from 0 name)

@@ -1,10 +1,10 @@
 //! The cleaned form of names.
 
 ghost use Rattle.std.specs.Prelude.{◌≡◌, ◌<◌, IfOk};
-ghost use Rattle.byte_text.specs.Names.{cleaned, cleaned_byte};
+ghost use Rattle.byte_text.specs.Names.{clean_name, clean_byte};
 
-use crate::text::Text;
 use crate::memory::OutOfMemory;
+use crate::text::Text;
 use std::alloc::Global;
 
 /// What stands for a name that isn't known.
@@ -13,7 +13,7 @@ pub const UNKNOWN: &[u8] = b"???";
 /// The byte at a place of a name of this length, in the cleaned form.
 fn clean_byte(len: usize, place: usize, byte: u8) -> u8
     requires { place < len }
-    ensures { result ≡ cleaned_byte len place byte }
+    ensures { result ≡ clean_byte len place byte }
 {
     let printable = matches!(byte, b' '..=b'~');
     let space_at_end = byte == b' ' && (place == 0 || place + 1 == len);
@@ -27,7 +27,7 @@ fn clean_byte(len: usize, place: usize, byte: u8) -> u8
 /// The cleaned form of a name, in which it stands in files and messages: each byte outside 0x20 to 0x7e and a space in
 /// the first or last place become `?`, and the empty name becomes `???`.
 pub fn clean_name(alloc: Global, name: &[u8]) -> Result<Text, OutOfMemory>
-    ensures { IfOk result (λ text. text ≡ cleaned name.now) }
+    ensures { IfOk result (λ text. text ≡ clean_name name.now) }
 {
     if name.is_empty() {
         return Text::from_bytes(alloc, UNKNOWN);

@@ -9,9 +9,9 @@ ghost use Rattle.std.specs.Cmp.Lexicographic.{slice_cmp, nat_list_eq_equiv, nat_
 ghost use Rattle.byte_text.specs.Hex.{hex, hex_digit};
 ghost use Rattle.byte_text.specs.Ties.{same_texts};
 
-use crate::text_ref::TextRef;
 use crate::exact_order::ExactOrder;
 use crate::memory::OutOfMemory;
+use crate::text_ref::TextRef;
 use itoa::Buffer;
 use std::alloc::Global;
 use std::cmp::Ordering;

@@ -9,9 +9,9 @@ ghost use Rattle.std.specs.Cmp as cmp;
 ghost use Rattle.std.specs.Cmp.Lexicographic.{slice_cmp, nat_list_eq_equiv, nat_list_cmp_total, texts_po, texts_ties};
 ghost use Rattle.byte_text.specs.Ties.{same_texts};
 
-use crate::text::Text;
 use crate::exact_order::ExactOrder;
 use crate::memory::OutOfMemory;
+use crate::text::Text;
 use std::alloc::Global;
 use std::cmp::Ordering;
 use std::marker::Model;

@@ -13,18 +13,18 @@ use Rattle.cache_lru.specs.Branches.{Tables, TablesStandFor, address_at, count_a
 use Rattle.cache_lru.specs.Branches.{destination_fails, destination_of, destinations, fails_after, outcome_fails}
 use Rattle.cache_lru.specs.Branches.{outcome_of, outcomes, target_of}
 
-kept_one : {A : Type 0} (f : Event → List A) (event : Event) (b : Bool)
+filtered_one : {A : Type 0} (f : Event → List A) (event : Event) (b : Bool)
     → flat_map f (if b then event ∷ [] else []) ≡ (if b then f event else [])
-kept_one f event true = append-nil (f event)
-kept_one f event false = refl
+filtered_one f event true = append-nil (f event)
+filtered_one f event false = refl
 
 -- what the events of some kind give, with one more event
-kept-push : {A : Type 0} (p : Event → Bool) (f : Event → List A) (events : List Event) (event : Event)
+filtered-push : {A : Type 0} (p : Event → Bool) (f : Event → List A) (events : List Event) (event : Event)
     → flat_map f (filter p (events ++ event ∷ [])) ≡ flat_map f (filter p events) ++ (if p event then f event else [])
-kept-push p f events event =
+filtered-push p f events event =
     ap (flat_map f) (filter-append p events (event ∷ []))
     ∙ flat_map-append f (filter p events) (filter p (event ∷ []))
-    ∙ ap (λ t. flat_map f (filter p events) ++ t) (kept_one f event (p event))
+    ∙ ap (λ t. flat_map f (filter p events) ++ t) (filtered_one f event (p event))
 
 count_at-push : (counter : ℕ) (events : List Event) (event : Event)
     → count_at counter (events ++ event ∷ [])
@@ -32,7 +32,7 @@ count_at-push : (counter : ℕ) (events : List Event) (event : Event)
     (if counter_of event.done.pc == counter then outcome_of event.done.branch else [])
 count_at-push counter events event =
     ap (fold counter_after 0)
-    (kept-push (λ e. counter_of e.done.pc == counter) (λ e. outcome_of e.done.branch) events event)
+    (filtered-push (λ e. counter_of e.done.pc == counter) (λ e. outcome_of e.done.branch) events event)
     ∙ fold-append counter_after 0 (outcomes counter events) _
 
 address_at-push : (target : ℕ) (events : List Event) (event : Event)
@@ -41,7 +41,7 @@ address_at-push : (target : ℕ) (events : List Event) (event : Event)
     (if target_of event.done.pc == target then destination_of event.done.branch event.done.next else [])
 address_at-push target events event =
     ap (fold (λ _ address. address) 0)
-    (kept-push (λ e. target_of e.done.pc == target) (λ e. destination_of e.done.branch e.done.next) events event)
+    (filtered-push (λ e. target_of e.done.pc == target) (λ e. destination_of e.done.branch e.done.next) events event)
     ∙ fold-append (λ (_ address : ℕ). address) 0 (destinations target events) _
 
 -- no outcome and no destination changes nothing

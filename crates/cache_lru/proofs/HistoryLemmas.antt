@@ -14,7 +14,7 @@ use Rattle.event_costs.specs.declared.kind.Kind.{Kind}
 use Rattle.event_costs.specs.Kinds.{kinds}
 use Rattle.cache_lru.specs.Shape.{Shape}
 use Rattle.cache_lru.specs.History.{Access, blocks_of, history_of, access_misses}
-use Rattle.cache_lru.specs.Lines.{Kept, StandsFor}
+use Rattle.cache_lru.specs.Lines.{Cache, StandsFor}
 use Rattle.cache_lru.specs.Costs.{Shapes, StandForEvents, each_after, fetch_of, data_of}
 use Rattle.cache_lru.specs.Costs.{data_misses_ll, fetches, data_references, misses_d1, misses_i1, onward, onward_fetch}
 use Rattle.cache_lru.specs.Costs.{access_of, onward_data, onward_of, counts_as, misses_after}
@@ -27,7 +27,7 @@ history_of-push shape earlier access =
     ∙ ap (λ bs. history_of shape earlier ++ bs) (append-nil (blocks_of shape access))
 
 -- a cache that stands for a history with the blocks of an access stands for the accesses with it
-pub StandsFor-access : (shape : Shape) (cache : Kept) (earlier : List Access) (access : Access)
+pub StandsFor-access : (shape : Shape) (cache : Cache) (earlier : List Access) (access : Access)
     → StandsFor shape cache (history_of shape earlier ++ blocks_of shape access)
     → StandsFor shape cache (history_of shape (earlier ++ access ∷ []))
 StandsFor-access shape cache earlier access stands =
@@ -85,7 +85,7 @@ onward_of-one shape earlier access =
     ap (λ b. if b then access ∷ [] else []) (or-false (access_misses shape earlier access))
 
 -- the caches after an event
-pub StandForEvents-push : (shapes : Shapes) (events : List Event) (event : Event) (i1 d1 ll : Kept)
+pub StandForEvents-push : (shapes : Shapes) (events : List Event) (event : Event) (i1 d1 ll : Cache)
     → StandsFor shapes.i1 i1 (history_of shapes.i1 (fetches events ++ fetch_of event ∷ []))
     → StandsFor shapes.d1 d1 (history_of shapes.d1 (data_references events ++ data_of event))
     → StandsFor shapes.ll ll
@@ -146,7 +146,7 @@ module _ (shapes : Shapes) (events : List Event) (event : Event) (fetched : miss
         reference_in_last = referred_last i;
       })
 
-  pub all_hit-stands : (i1 d1 ll : Kept)
+  pub all_hit-stands : (i1 d1 ll : Cache)
       → StandsFor shapes.i1 i1 (history_of shapes.i1 (fetches events ++ fetch_of event ∷ []))
       → StandsFor shapes.d1 d1 (history_of shapes.d1 (data_references events ++ data_of event))
       → StandsFor shapes.ll ll (history_of shapes.ll (onward shapes events))

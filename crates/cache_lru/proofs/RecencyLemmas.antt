@@ -10,7 +10,7 @@ use Rattle.std.proofs.lemmas.List.{length-take-le, length-append, length-replica
 use Rattle.std.proofs.lemmas.Nat.{row_fits}
 use Rattle.cache_lru.specs.Shape.{Shape, set_of, sets_of, block_of}
 use Rattle.cache_lru.specs.History.{blocks_of, all_but, distinct, newest_first, hits}
-use Rattle.cache_lru.specs.Lines.{filled, empty_line, lines_of, StandsFor}
+use Rattle.cache_lru.specs.Lines.{filled_lines, empty_line, lines_of, StandsFor}
 use Rattle.cache_lru.specs.inner.Layout.{without, to_front}
 use Rattle.cache_lru.proofs.LineLemmas.{list_any-first, to_front-first}
 
@@ -95,22 +95,22 @@ list_any-empty zero (suc n) b some = refl
 list_any-empty (suc m) (suc n) b some = simp some (list_any-empty m n b some)
 
 -- a block is among the lines where it is among the blocks that they hold
-pub list_any-filled : (m n b : ℕ) → (empty_line == b) ≡ false → (xs : List ℕ)
+pub list_any-filled_lines : (m n b : ℕ) → (empty_line == b) ≡ false → (xs : List ℕ)
     → list_any (λ kept. kept == b) (take n (xs ++ replicate m empty_line)) ≡ list_any (λ kept. kept == b) (take n xs)
-list_any-filled m zero b some xs = refl
-list_any-filled m (suc n) b some [] = list_any-empty m (suc n) b some
-list_any-filled m (suc n) b some (x ∷ xs) = ap (λ t. (x == b) || t) (list_any-filled m n b some xs)
+list_any-filled_lines m zero b some xs = refl
+list_any-filled_lines m (suc n) b some [] = list_any-empty m (suc n) b some
+list_any-filled_lines m (suc n) b some (x ∷ xs) = ap (λ t. (x == b) || t) (list_any-filled_lines m n b some xs)
 
-length-filled : (n : ℕ) (xs : List ℕ) → length (filled n xs) ≡ n
-length-filled n xs =
+length-filled_lines : (n : ℕ) (xs : List ℕ) → length (filled_lines n xs) ≡ n
+length-filled_lines n xs =
     length-take-le n (xs ++ replicate n empty_line) (simp (length-append, length-replicate) (omega arith))
 
 -- the lines of a set after a reference hold the block and then the others
-pub to_front-filled : (n b : ℕ) → (empty_line == b) ≡ false → 0 < n → (xs : List ℕ)
-    → to_front b (filled n (distinct xs)) ≡ filled n (b ∷ all_but b (distinct xs))
-to_front-filled zero b some has xs = absurd (omega arith)
-to_front-filled (suc k) b some has xs =
-    ap (λ n. take n (b ∷ without b (filled (suc k) (distinct xs)))) (length-filled (suc k) (distinct xs))
+pub to_front-filled_lines : (n b : ℕ) → (empty_line == b) ≡ false → 0 < n → (xs : List ℕ)
+    → to_front b (filled_lines n (distinct xs)) ≡ filled_lines n (b ∷ all_but b (distinct xs))
+to_front-filled_lines zero b some has xs = absurd (omega arith)
+to_front-filled_lines (suc k) b some has xs =
+    ap (λ n. take n (b ∷ without b (filled_lines (suc k) (distinct xs)))) (length-filled_lines (suc k) (distinct xs))
     ∙ ap (λ t. b ∷ t) (
     take-without k b (distinct xs ++ replicate (suc k) empty_line)
     ∙ ap (take k)
@@ -165,7 +165,7 @@ module _ (shape : Shape) (lines : List ℕ) (b : ℕ) (some : (empty_line == b) 
       → list_any (λ kept. kept == b) (lines_of shape.assoc (set_of shape b) lines) ≡ hits other history b
   list_any-hits other history stands within =
       ap (list_any (λ kept. kept == b)) (stands.newest (set_of shape b) within)
-      ∙ list_any-filled shape.assoc shape.assoc b some (newest_first shape (set_of shape b) history)
+      ∙ list_any-filled_lines shape.assoc shape.assoc b some (newest_first shape (set_of shape b) history)
       ∙ ap (λ s. hits s history b) stands.same_shape
 
   -- once it was put in front there, the cache stands for the history with it
@@ -181,14 +181,14 @@ module _ (shape : Shape) (lines : List ℕ) (b : ℕ) (some : (empty_line == b) 
           ap (λ s. lines_of shape.assoc s now) same
           ∙ touched
           ∙ ap (to_front b) (stands.newest (set_of shape b) within)
-          ∙ to_front-filled shape.assoc b some has
+          ∙ to_front-filled_lines shape.assoc b some has
           (reverse (filter (λ block. set_of shape block == set_of shape b) history))
-          ∙ ap (filled shape.assoc) (sym (newest_first-push_same shape (set_of shape b) b history refl))
-          ∙ ap (λ s. filled shape.assoc (newest_first shape s (history ++ b ∷ []))) (sym same)
+          ∙ ap (filled_lines shape.assoc) (sym (newest_first-push_same shape (set_of shape b) b history refl))
+          ∙ ap (λ s. filled_lines shape.assoc (newest_first shape s (history ++ b ∷ []))) (sym same)
       | inr apart ↦
           kept set apart
           ∙ stands.newest set below
-          ∙ ap (filled shape.assoc) (sym (newest_first-push_other shape set b history (λ e. apart (sym e))))
+          ∙ ap (filled_lines shape.assoc) (sym (newest_first-push_other shape set b history (λ e. apart (sym e))))
     ];
   }
 

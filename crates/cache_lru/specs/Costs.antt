@@ -11,7 +11,7 @@ use Rattle.event_costs.specs.declared.kind.Kind.TheVariants.{Ir, Dr, Dw, I1mr, D
 use Rattle.event_costs.specs.Kinds.{cost_by}
 use Rattle.cache_lru.specs.Shape.{Shape}
 use Rattle.cache_lru.specs.History.{Access, history_of, access_misses}
-use Rattle.cache_lru.specs.Lines.{Kept, StandsFor}
+use Rattle.cache_lru.specs.Lines.{Cache, StandsFor}
 use Rattle.cache_lru.specs.Branches.{Tables, TablesStandFor, branch_counts, fails_after}
 
 -- the shapes of the cache of instructions, that of data and the last level
@@ -157,20 +157,20 @@ unfoldable pub branch_cost_after : List Event → Event → List ℕ
 branch_cost_after before event = cost_by (branch_counts event.done.branch (fails_after before event))
 
 -- what three caches keep
-pub record KeptAll : Type 0 where
-  pub i1 : Kept
-  pub d1 : Kept
-  pub ll : Kept
+pub record Caches : Type 0 where
+  pub i1 : Cache
+  pub d1 : Cache
+  pub ll : Cache
 
 -- Three caches of these shapes stand for a list of events where each stands for the history that these give it.
-pub record StandForEvents (shapes : Shapes) (caches : KeptAll) (events : List Event) : Type 0 where
+pub record StandForEvents (shapes : Shapes) (caches : Caches) (events : List Event) : Type 0 where
   pub i1 : StandsFor shapes.i1 caches.i1 (history_of shapes.i1 (fetches events))
   pub d1 : StandsFor shapes.d1 caches.d1 (history_of shapes.d1 (data_references events))
   pub ll : StandsFor shapes.ll caches.ll (history_of shapes.ll (onward shapes events))
 
 -- What gives each event of a run its cost: the caches, and where branches are asked for the tables of the predictors.
-pub record KeptForRun : Type 0 where
-  pub caches : KeptAll
+pub record RunCosts : Type 0 where
+  pub caches : Caches
   pub tables : Option Tables
 
 abbrev pub TablesStandWhere : Bool → Option Tables → List Event → Type 0
@@ -181,6 +181,6 @@ TablesStandWhere false (Some tables) events = ⊥
 
 -- They stand for a list of events where the caches do, and where the predictors are there exactly if asked for, and do
 -- too.
-pub record StandForRun (branches : Bool) (shapes : Shapes) (kept : KeptForRun) (events : List Event) : Type 0 where
+pub record StandForRun (branches : Bool) (shapes : Shapes) (kept : RunCosts) (events : List Event) : Type 0 where
   pub caches : StandForEvents shapes kept.caches events
   pub tables : TablesStandWhere branches kept.tables events

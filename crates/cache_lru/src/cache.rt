@@ -39,10 +39,10 @@ pub struct Cache {
 }
 
 impl Model for Cache {
-    ghost use Rattle.cache_lru.specs.Lines.{Kept};
+    ghost use Rattle.cache_lru.specs.Lines.{Cache};
     ghost use Rattle.cache_lru.specs.inner.Layout.{IsLaidOut};
 
-    ghost Value = { Kept };
+    ghost Value = { Cache };
 
     ghost view = { λ c. record { shape = c.shape; lines = c.lines.items } };
 

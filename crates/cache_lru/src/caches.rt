@@ -29,9 +29,9 @@ pub struct Caches {
 }
 
 impl Model for Caches {
-    ghost use Rattle.cache_lru.specs.Costs.{KeptAll};
+    ghost use Rattle.cache_lru.specs.Costs.{Caches};
 
-    ghost Value = { KeptAll };
+    ghost Value = { Caches };
 
     ghost view = { λ c. record { i1 = c.i1; d1 = c.d1; ll = c.ll } };
 }

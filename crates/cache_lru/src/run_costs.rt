@@ -22,9 +22,9 @@ pub struct RunCosts {
 }
 
 impl Model for RunCosts {
-    ghost use Rattle.cache_lru.specs.Costs.{KeptForRun};
+    ghost use Rattle.cache_lru.specs.Costs.{RunCosts};
 
-    ghost Value = { KeptForRun };
+    ghost Value = { RunCosts };
 
     ghost view = { λ c. record { caches = c.caches; tables = c.predictors } };
 }

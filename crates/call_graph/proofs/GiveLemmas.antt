@@ -3,9 +3,9 @@ use Rattle.std.proofs.Common.{◌≡◌, ◌≢◌, ◌⊎◌, ℕ, ◌+◌, ◌
 use Rattle.std.proofs.Common.{inl, inr, arith}
 use Rattle.std.proofs.lemmas.List.{get_or-take, length-set, length-take-le}
 use Rattle.call_graph.specs.inner.Pass.{ranks, IsRanked, KeepsFair}
-use Rattle.call_graph.specs.declared.state.State.{State}
-use Rattle.call_graph.specs.declared.state.State.TheVariants.{Closed}
-use Rattle.call_graph.proofs.RankLemmas.{inside, write_cases, left-set_old, ranks-set}
+use Rattle.call_graph.specs.declared.visit_state.VisitState.{VisitState}
+use Rattle.call_graph.specs.declared.visit_state.VisitState.TheVariants.{Closed}
+use Rattle.call_graph.proofs.RankLemmas.{inside, write_cases, unmet_weight-set_old, ranks-set}
 
 -- what was met stays met
 abbrev pub KeepsMet : List ℕ → List ℕ → Type 0
@@ -40,9 +40,9 @@ given_more old fs rank i new lt some met before =
     record {
       ranked = record {
         size = length-set new f rank ∙ before.ranked.size;
-        given = given;
-        kept = kept;
-        weights = λ ws. left-set_old ws new f rank now some ∙ before.ranked.weights ws;
+        have_rank = given;
+        others = kept;
+        weights = λ ws. unmet_weight-set_old ws new f rank now some ∙ before.ranked.weights ws;
       };
       met = λ g lt. met_at (before.met g lt) (write_cases new f rank g within);
     }
@@ -57,7 +57,7 @@ given_more old fs rank i new lt some met before =
         → get_or (set new (get_or fs i 0) rank) g 0 ≡ rank
     given_at before p g (inl here) same less = here.1
     given_at before p g (inr other) same less = other.1 ∙ ap (λ k. get_or new k 0) (same other.0)
-        ∙ before.ranked.given p (less other.0)
+        ∙ before.ranked.have_rank p (less other.0)
 
     kept_at : IsGivenTo old fs rank i new → (g : ℕ)
         → ((g ≡ get_or fs i 0) × (get_or (set new (get_or fs i 0) rank) g 0 ≡ rank))
@@ -65,7 +65,7 @@ given_more old fs rank i new lt some met before =
         → (g ≡ get_or fs i 0 → ⊥) → ((p : ℕ) → p < length (take i fs) → get_or (take i fs) p 0 ≢ g)
         → get_or (set new (get_or fs i 0) rank) g 0 ≡ get_or old g 0
     kept_at before g (inl here) ne out = absurd (ne here.0)
-    kept_at before g (inr other) ne out = other.1 ∙ before.ranked.kept g out
+    kept_at before g (inr other) ne out = other.1 ∙ before.ranked.others g out
 
     met_at : {f g : ℕ} → 0 < get_or new g 0
         → ((g ≡ f) × (get_or (set new f rank) g 0 ≡ rank)) ⊎ ((g ≢ f) × (get_or (set new f rank) g 0 ≡ get_or new g 0))
@@ -73,7 +73,7 @@ given_more old fs rank i new lt some met before =
     met_at lt (inl here) = omega (arith, here.1, some)
     met_at lt (inr other) = omega (arith, other.1, lt)
 
-pub ranks_given : (old fs : List ℕ) (i : ℕ) (states : List State) (n group f : ℕ) → length states ≡ n
+pub ranks_given : (old fs : List ℕ) (i : ℕ) (states : List VisitState) (n group f : ℕ) → length states ≡ n
     → IsGivenTo old fs (n + 1 + group) i (set (ranks states) f (n + 1 + group))
     → IsGivenTo old fs (n + 1 + group) i (ranks (set states f (Closed group)))
 ranks_given old fs i states n group f size given =
@@ -89,5 +89,5 @@ ranked_along {old = old} {fs = fs} {fs' = fs'} {rank = rank} {rank' = rank'} {ne
     (subst (λ x. IsRanked old x rank' new') b
     (subst (λ x. IsRanked old fs x new') c (subst (λ x. IsRanked old fs rank x) d r)))
 
-pub fair_along : {old old' new new' : List State} → old ≡ old' → new ≡ new' → KeepsFair old new → KeepsFair old' new'
+pub fair_along : {old old' new new' : List VisitState} → old ≡ old' → new ≡ new' → KeepsFair old new → KeepsFair old' new'
 fair_along {old = old} {new' = new'} a b k = subst (λ x. KeepsFair x new') a (subst (λ x. KeepsFair old x) b k)

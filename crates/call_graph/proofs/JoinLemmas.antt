@@ -4,7 +4,7 @@ use Rattle.std.proofs.Common.{inl, inr, arith}
 use Rattle.std.proofs.lemmas.List.{get_or-take, length-take-le}
 use Rattle.std.proofs.lemmas.Bool.{cases_lt}
 use Rattle.call_graph.specs.inner.Pass.{mark, start, height, IsStart, Waits, IsTaken, Leads, IsMark, IsPass}
-use Rattle.call_graph.specs.declared.state.Mark.{Mark}
+use Rattle.call_graph.specs.declared.visit_state.Mark.{Mark}
 use Rattle.call_graph.proofs.PassLemmas.{at, rising_le}
 use Rattle.call_graph.proofs.ReachLemmas.{leads_after, leads_at}
 
@@ -55,8 +55,8 @@ module _ {n : ℕ} {Step : ℕ → ℕ → Type 0} {rank path work : List ℕ} {
         waits = before.waits;
       }
 
-  pub joined : IsPass n Step None rank path work (take m marks) count
-  joined = record {
+  pub pass_after_join : IsPass n Step None rank path work (take m marks) count
+  pass_after_join = record {
     size = pass.size;
     room = pass.room;
     placed = pass.placed;

@@ -6,9 +6,9 @@ use Rattle.std.proofs.lemmas.List.{length-set, length-replicate, get_or-replicat
 use Rattle.std.proofs.lemmas.List.Elements.{Contains-get_or}
 use Rattle.std.proofs.lemmas.Bool.{cases_lt}
 use Rattle.call_graph.specs.Reach.{Reach, one, SameGroup}
-use Rattle.call_graph.specs.inner.Pass.{left, mark, start, height, IsStart, Waits, IsTaken, Leads, IsMark, IsPass}
-use Rattle.call_graph.specs.declared.state.Mark.{Mark}
-use Rattle.call_graph.proofs.RankLemmas.{write_cases, left-set_new}
+use Rattle.call_graph.specs.inner.Pass.{unmet_weight, mark, start, height, IsStart, Waits, IsTaken, Leads, IsMark, IsPass}
+use Rattle.call_graph.specs.declared.visit_state.Mark.{Mark}
+use Rattle.call_graph.proofs.RankLemmas.{write_cases, unmet_weight-set_new}
 use Rattle.call_graph.proofs.ReachLemmas.{leads_after, reach_from, leads_at, reach_at}
 
 abbrev pub at : List ℕ → ℕ → ℕ
@@ -57,8 +57,8 @@ module _ {n : ℕ} {Step : ℕ → ℕ → Type 0} {rank path : List ℕ} {marks
   ]
   still (inr (inr none)) = absurd none
 
-  pub popped : IsPass n Step (Some f) rank path rest marks count
-  popped = record {
+  pub pass_after_pop : IsPass n Step (Some f) rank path rest marks count
+  pass_after_pop = record {
     size = pass.size;
     room = pass.room;
     placed = pass.placed;
@@ -132,11 +132,11 @@ module _ {n : ℕ} {Step : ℕ → ℕ → Type 0} {taken : Option ℕ} {rank pa
   weights : length {A = ℕ} (replicate n 1) ≡ length rank
   weights = length-replicate n 1 ∙ sym pass.size
 
-  free : left (replicate n 1) rank' + 1 ≡ left (replicate n 1) rank
+  free : unmet_weight (replicate n 1) rank' + 1 ≡ unmet_weight (replicate n 1) rank
   free =
       omega (
         arith,
-        left-set_new (replicate n 1) rank f (length path + 1) weights (omega (arith, pass.size)) fresh
+        unmet_weight-set_new (replicate n 1) rank f (length path + 1) weights (omega (arith, pass.size)) fresh
             (omega arith),
         get_or-replicate {A = ℕ} n f 1 0 within,
       )
@@ -321,8 +321,8 @@ module _ {n : ℕ} {Step : ℕ → ℕ → Type 0} {taken : Option ℕ} {rank pa
       let before = pass.used c lt in
       (before.0, at_other before.0 (omega (arith, before.1)) ∙ before.1)
 
-  pub entered : IsPass n Step None rank' path' (work ++ row) marks' count
-  entered = record {
+  pub pass_after_enter : IsPass n Step None rank' path' (work ++ row) marks' count
+  pass_after_enter = record {
     size = length-set rank f (length path + 1) ∙ pass.size;
     room = omega (arith, free, longer, pass.room);
     placed = placed;

@@ -5,8 +5,8 @@ use Rattle.std.proofs.Common.{get_or-set_other}
 use Rattle.std.proofs.lemmas.List.{length-map, map-set, length-set, get_or-map}
 use Rattle.std.proofs.lemmas.Bool.{cases_eq}
 use Rattle.std.proofs.lemmas.Bool.Decides.{nat_tests}
-use Rattle.call_graph.specs.inner.Pass.{left, rank_of, ranks}
-use Rattle.call_graph.specs.declared.state.State.{State}
+use Rattle.call_graph.specs.inner.Pass.{unmet_weight, rank_of, ranks}
+use Rattle.call_graph.specs.declared.visit_state.VisitState.{VisitState}
 
 -- a rank above 0 is one of the list
 pub inside : (rank : List ℕ) (g : ℕ) → 0 < get_or rank g 0 → g < length rank
@@ -29,35 +29,35 @@ old_weight : (w : ℕ) (r : ℕ) → 0 < r → cond (r == 0) w 0 ≡ 0
 old_weight w r lt = let met : (r == 0) ≡ false = grind (arith, nat_tests) in ap (λ b. cond b w 0) met
 
 -- a function that is met takes its weight away
-pub left-set_new : (ws rank : List ℕ) (f r : ℕ) → length ws ≡ length rank → f < length rank
+pub unmet_weight-set_new : (ws rank : List ℕ) (f r : ℕ) → length ws ≡ length rank → f < length rank
     → get_or rank f 0 ≡ 0 → 0 < r
-    → left ws (set rank f r) + get_or ws f 0 ≡ left ws rank
-left-set_new [] [] f r same lt fresh some = absurd (omega arith)
-left-set_new [] (x ∷ rank) f r same lt fresh some = absurd (omega arith)
-left-set_new (w ∷ ws) [] f r same lt fresh some = absurd (omega arith)
-left-set_new (w ∷ ws) (x ∷ rank) zero r same lt fresh some =
+    → unmet_weight ws (set rank f r) + get_or ws f 0 ≡ unmet_weight ws rank
+unmet_weight-set_new [] [] f r same lt fresh some = absurd (omega arith)
+unmet_weight-set_new [] (x ∷ rank) f r same lt fresh some = absurd (omega arith)
+unmet_weight-set_new (w ∷ ws) [] f r same lt fresh some = absurd (omega arith)
+unmet_weight-set_new (w ∷ ws) (x ∷ rank) zero r same lt fresh some =
     omega (arith, new_weight w x fresh, old_weight w r some)
-left-set_new (w ∷ ws) (x ∷ rank) (suc f) r same lt fresh some =
-    omega (arith, left-set_new ws rank f r (omega arith) (omega arith) fresh some)
+unmet_weight-set_new (w ∷ ws) (x ∷ rank) (suc f) r same lt fresh some =
+    omega (arith, unmet_weight-set_new ws rank f r (omega arith) (omega arith) fresh some)
 
 -- one that was met before has none
-pub left-set_old : (ws rank : List ℕ) (f r : ℕ) → 0 < get_or rank f 0 → 0 < r → left ws (set rank f r) ≡ left ws rank
-left-set_old [] rank f r met some = refl
-left-set_old (w ∷ ws) [] f r met some = refl
-left-set_old (w ∷ ws) (x ∷ rank) zero r met some =
+pub unmet_weight-set_old : (ws rank : List ℕ) (f r : ℕ) → 0 < get_or rank f 0 → 0 < r → unmet_weight ws (set rank f r) ≡ unmet_weight ws rank
+unmet_weight-set_old [] rank f r met some = refl
+unmet_weight-set_old (w ∷ ws) [] f r met some = refl
+unmet_weight-set_old (w ∷ ws) (x ∷ rank) zero r met some =
     omega (arith, old_weight w x met, old_weight w r some)
-left-set_old (w ∷ ws) (x ∷ rank) (suc f) r met some =
-    ap (λ k. cond (x == 0) w 0 + k) (left-set_old ws rank f r met some)
+unmet_weight-set_old (w ∷ ws) (x ∷ rank) (suc f) r met some =
+    ap (λ k. cond (x == 0) w 0 + k) (unmet_weight-set_old ws rank f r met some)
 
 -- the ranks of states
-pub length-ranks : (states : List State) → length (ranks states) ≡ length states
+pub length-ranks : (states : List VisitState) → length (ranks states) ≡ length states
 length-ranks states = length-map states (rank_of (length states))
 
-pub ranks-set : (states : List State) (f : ℕ) (s : State)
+pub ranks-set : (states : List VisitState) (f : ℕ) (s : VisitState)
     → ranks (set states f s) ≡ set (ranks states) f (rank_of (length states) s)
 ranks-set states f s =
     ap (λ n. map (rank_of n) (set states f s)) (length-set states f s) ∙ map-set (rank_of (length states)) states f s
 
-pub rank_at : (states : List State) (f : ℕ) (s : State) → f < length states → s ≡ get_or states f s
+pub rank_at : (states : List VisitState) (f : ℕ) (s : VisitState) → f < length states → s ≡ get_or states f s
     → get_or (ranks states) f 0 ≡ rank_of (length states) s
 rank_at states f s lt is = get_or-map (rank_of (length states)) states f s 0 lt ∙ ap (rank_of (length states)) (sym is)

@@ -5,7 +5,7 @@ use Rattle.std.proofs.lemmas.List.{get_or-take, get_or-drop, length-take-le, len
 use Rattle.std.proofs.lemmas.Bool.{cases_lt}
 use Rattle.call_graph.specs.Reach.{Reach, SameGroup}
 use Rattle.call_graph.specs.inner.Pass.{mark, start, height, IsStart, Waits, IsTaken, Leads, IsMark, IsPass, IsRanked}
-use Rattle.call_graph.specs.declared.state.Mark.{Mark}
+use Rattle.call_graph.specs.declared.visit_state.Mark.{Mark}
 use Rattle.call_graph.proofs.PassLemmas.{at, to_start}
 use Rattle.call_graph.proofs.ReachLemmas.{leads_after, leads_at, leads_from_same, same_back, same_from_leads}
 use Rattle.call_graph.proofs.ReachLemmas.{along_leads}
@@ -37,9 +37,9 @@ module _ {n : ℕ} {Step : ℕ → ℕ → Type 0} {rank path work : List ℕ} {
   shut_cases : (g : ℕ) → ((at rank' g ≡ n + 1 + count) × IsInLast g)
       ⊎ ((at rank' g ≡ at rank g) × ((at rank g ≤ from) ⊎ (n < at rank g)))
   shut_cases g = elim (cases_lt from (at rank g)) [
-    | inr low ↦ inr (ranked.kept g (not_in_last g (inl low)), inl low)
+    | inr low ↦ inr (ranked.others g (not_in_last g (inl low)), inl low)
     | inl up ↦ elim (cases_lt n (at rank g)) [
-      | inl high ↦ inr (ranked.kept g (not_in_last g (inr high)), inr high)
+      | inl high ↦ inr (ranked.others g (not_in_last g (inr high)), inr high)
       | inr open_still ↦
           let there = pass.found g (omega arith) open_still in
           let place : from + (at rank g - 1 - from) ≡ at rank g - 1 = omega arith in
@@ -47,7 +47,7 @@ module _ {n : ℕ} {Step : ℕ → ℕ → Type 0} {rank path work : List ℕ} {
           ∙ ap (at path) place ∙ there.1 in
           inl (
             ap (at rank') (sym here)
-                ∙ ranked.given (at rank g - 1 - from)
+                ∙ ranked.have_rank (at rank g - 1 - from)
                 (omega (arith, length-drop from path, there.0)),
             (
               at rank g - 1,
@@ -231,8 +231,8 @@ module _ {n : ℕ} {Step : ℕ → ℕ → Type 0} {rank path work : List ℕ} {
           )
     ]
 
-    pub shut : IsPass n Step None rank' (take from path) work (take (length marks - 1) marks) (count + 1)
-    shut = record {
+    pub pass_after_close : IsPass n Step None rank' (take from path) work (take (length marks - 1) marks) (count + 1)
+    pass_after_close = record {
       size = ranked.size ∙ pass.size;
       room = omega (arith, size, last.start_in, ranked.weights (replicate n 1), pass.room);
       placed = placed;

@@ -8,21 +8,21 @@ use Rattle.std.proofs.lemmas.List.Elements.{All-set, All-replicate}
 use Rattle.std.proofs.lemmas.Bool.{cases_lt}
 use Rattle.call_graph.specs.Reach.{Reach, one, more}
 use Rattle.call_graph.specs.inner.Rows.{Calls, StayWithin}
-use Rattle.call_graph.specs.inner.Pass.{left, rank_of, ranks, mark, start, height, IsTaken, Leads, IsPass, IsFair}
+use Rattle.call_graph.specs.inner.Pass.{unmet_weight, rank_of, ranks, mark, start, height, IsTaken, Leads, IsPass, IsFair}
 use Rattle.call_graph.specs.inner.Pass.{IsEntered, IsCut, IsRanked, IsShut, Stands, IsLater, CanLook, CanStep, IsClosed}
 use Rattle.call_graph.specs.inner.Pass.{IsFinished, group_in, remaining}
-use Rattle.call_graph.specs.declared.state.Mark.{Mark}
-use Rattle.call_graph.specs.declared.state.State.{State}
-use Rattle.call_graph.specs.declared.state.State.TheVariants.{New, Open, Closed}
+use Rattle.call_graph.specs.declared.visit_state.Mark.{Mark}
+use Rattle.call_graph.specs.declared.visit_state.VisitState.{VisitState}
+use Rattle.call_graph.specs.declared.visit_state.VisitState.TheVariants.{New, Open, Closed}
 use Rattle.call_graph.specs.declared.pass.Pass.{Pass}
-use Rattle.call_graph.proofs.RankLemmas.{inside, write_cases, left-set_new, length-ranks, ranks-set, rank_at}
-use Rattle.call_graph.proofs.PassLemmas.{at, entered, popped, popped_reached}
-use Rattle.call_graph.proofs.JoinLemmas.{joined}
-use Rattle.call_graph.proofs.ShutLemmas.{shut, shut_met}
+use Rattle.call_graph.proofs.RankLemmas.{inside, write_cases, unmet_weight-set_new, length-ranks, ranks-set, rank_at}
+use Rattle.call_graph.proofs.PassLemmas.{at, pass_after_enter, pass_after_pop, popped_reached}
+use Rattle.call_graph.proofs.JoinLemmas.{pass_after_join}
+use Rattle.call_graph.proofs.ShutLemmas.{pass_after_close, shut_met}
 use Rattle.call_graph.proofs.GiveLemmas.{ranked_along}
 
 -- a function's rank, by its state
-pub rank_by : {rows : List (List ℕ)} {taken : Option ℕ} {pass : Pass} (f : ℕ) (s t : State) → Stands rows taken pass
+pub rank_by : {rows : List (List ℕ)} {taken : Option ℕ} {pass : Pass} (f : ℕ) (s t : VisitState) → Stands rows taken pass
     → f < length rows → s ≡ get_or pass.states.items f s → s ≡ t
     → at (ranks pass.states.items) f ≡ rank_of (length rows) t
 rank_by {rows = rows} {pass = pass} f s t stands lt is same =
@@ -48,7 +48,7 @@ module _ (rows : List (List ℕ)) {taken : Option ℕ} (old : Pass) (f : ℕ) (n
   pub entered_later : ((g : ℕ) → IsTaken taken g → g ≡ f) → f < length rows → at (ranks old.states.items) f ≡ 0
       → ((q : ℕ) → q < length old.path.items → Leads (Calls rows) (at old.path.items q) f) → IsLater rows old new
   entered_later only within fresh leads =
-      let pass = entered f (get_or rows f []) stands.holds only within fresh leads (λ g. (λ x. x, λ x. x)) in
+      let pass = pass_after_enter f (get_or rows f []) stands.holds only within fresh leads (λ g. (λ x. x, λ x. x)) in
       let now = pass_along entered_ranks (sym done.path) (sym done.work) (sym done.marks) (sym done.count) pass in
       record {
         stands = record {
@@ -81,13 +81,13 @@ module _ (rows : List (List ℕ)) {taken : Option ℕ} (old : Pass) (f : ℕ) (n
       ∙ sym stands.holds.size in
       let own : get_or weights f 0 ≡ length (get_or rows f []) + 1
       = get_or-map (λ row. length row + 1) rows f [] 0 within in
-      let less = left-set_new weights (ranks old.states.items) f (length old.path.items + 1) size
+      let less = unmet_weight-set_new weights (ranks old.states.items) f (length old.path.items + 1) size
       (omega (arith, stands.holds.size, within)) fresh (omega arith) in
       omega (
         arith,
         less,
         own,
-        ap (left weights) entered_ranks,
+        ap (unmet_weight weights) entered_ranks,
         ap (length {A = ℕ}) done.work,
         length-append old.work.items (get_or rows f []),
         ap (length {A = Mark}) done.marks,
@@ -95,15 +95,15 @@ module _ (rows : List (List ℕ)) {taken : Option ℕ} (old : Pass) (f : ℕ) (n
       )
 
 -- A function that was met before is looked at.
-pub looked : (rows : List (List ℕ)) (old : Pass) (f : ℕ) (marks : Vec Mark Global) → CanLook rows old f
+pub later_after_look : (rows : List (List ℕ)) (old : Pass) (f : ℕ) (marks : Vec Mark Global) → CanLook rows old f
     → 0 < at (ranks old.states.items) f
     → IsCut old.marks.items (at (ranks old.states.items) f) marks.items
     → IsLater rows old (record old { marks = marks })
-looked rows old f marks can met cut = record {
+later_after_look rows old f marks can met cut = record {
   stands = record {
     holds =
-        pass_along refl refl refl (sym cut.kept) refl
-        (joined can.stands.holds met can.leads (length marks.items) cut.few cut.dropped cut.last);
+        pass_along refl refl refl (sym cut.front) refl
+        (pass_after_join can.stands.holds met can.leads (length marks.items) cut.few cut.dropped cut.last);
     fair = can.stands.fair;
   };
   met = λ g lt. lt;
@@ -115,7 +115,7 @@ pub cut_closed : (rows : List (List ℕ)) (old : Pass) (f : ℕ) → CanLook row
     → IsCut old.marks.items (at (ranks old.states.items) f) old.marks.items
 cut_closed rows old f can high = record {
   few = omega arith;
-  kept = sym (take_all (length old.marks.items) old.marks.items (omega arith));
+  front = sym (take_all (length old.marks.items) old.marks.items (omega arith));
   dropped = λ k le lt. absurd (omega arith);
   last =
       λ lt. omega (
@@ -143,7 +143,7 @@ can_look rows old last work f can enough split =
     let reached : (q : ℕ) → q < length old.path.items → Reach (Calls rows) (at old.path.items q) f
     = popped_reached work.items f before can.some high in
     record {
-      stands = record { holds = popped work.items f before can.some high; fair = can.stands.fair };
+      stands = record { holds = pass_after_pop work.items f before can.some high; fair = can.stands.fair };
       stay = can.stay;
       within = reached_within rows can.stay (reached 0 place);
       leads = λ q lt. inr (reached q lt);
@@ -169,7 +169,7 @@ module _ (rows : List (List ℕ)) (old : Pass) (last : Mark) (new : Pass) (can :
     stands = record {
       holds = pass_along refl (ap (λ s. take s old.path.items) from ∙ sym done.path) (sym done.work) (sym done.marks)
           (sym done.count)
-          (shut can.stands.holds can.some (ranks new.states.items) finished
+          (pass_after_close can.stands.holds can.some (ranks new.states.items) finished
           (omega (arith, ap (λ m. m.height) can.is_last, low)));
       fair = done.fair (length rows) can.stands.fair;
     };
@@ -198,11 +198,11 @@ all_closed {n = n} {rank = rank} pass none g met = elim (cases_lt n (at rank g))
   | inr low ↦ absurd (omega (arith, (pass.found g met low).0, empty_path pass none))
 ]
 
-pub unchanged : {rows : List (List ℕ)} {pass : Pass} → Stands rows None pass → IsLater rows pass pass
-unchanged stands = record { stands = stands; met = λ g lt. lt }
+pub later_itself : {rows : List (List ℕ)} {pass : Pass} → Stands rows None pass → IsLater rows pass pass
+later_itself stands = record { stands = stands; met = λ g lt. lt }
 
 -- a function that is not new was met
-pub met_by : {rows : List (List ℕ)} {taken : Option ℕ} {pass : Pass} (f : ℕ) (s : State) → Stands rows taken pass
+pub met_by : {rows : List (List ℕ)} {taken : Option ℕ} {pass : Pass} (f : ℕ) (s : VisitState) → Stands rows taken pass
     → f < length rows → s ≡ get_or pass.states.items f s → s ≢ New
     → 0 < at (ranks pass.states.items) f
 met_by f New stands lt is old = absurd (old refl)
@@ -215,7 +215,7 @@ none_met n g = elim (cases_lt g n) [
   | inr past ↦ get_or_past {X = ℕ} (replicate n 0) g 0 (omega (arith, length-replicate {A = ℕ} n 0))
 ]
 
-all_left : (n : ℕ) → left (replicate n 1) (replicate n 0) ≡ n
+all_left : (n : ℕ) → unmet_weight (replicate n 1) (replicate n 0) ≡ n
 all_left zero = refl
 all_left (suc n) = omega (arith, all_left n)
 
@@ -223,10 +223,10 @@ all_new : (k n : ℕ) → map (rank_of k) (replicate n New) ≡ replicate n 0
 all_new k zero = refl
 all_new k (suc n) = ap (λ (l : List ℕ). 0 ∷ l) (all_new k n)
 
-pub begun : (rows : List (List ℕ)) (pass : Pass) → pass.states.items ≡ replicate (length rows) New
+pub pass_at_start : (rows : List (List ℕ)) (pass : Pass) → pass.states.items ≡ replicate (length rows) New
     → pass.path.items ≡ [] → pass.work.items ≡ [] → pass.marks.items ≡ [] → pass.count ≡ 0
     → Stands rows None pass
-begun rows pass states path work marks count =
+pass_at_start rows pass states path work marks count =
     let n : ℕ = length rows in
     let ranks_are : replicate n 0 ≡ ranks pass.states.items
     = sym (ap ranks states ∙ all_new (length (replicate n New)) n) in
@@ -249,7 +249,7 @@ begun rows pass states path work marks count =
     }
 
 -- At the end every function is in its group.
-closed_state : (n : ℕ) (s : State) → IsFair n s → n < rank_of n s → IsClosed s × (rank_of n s ≡ n + 1 + group_in s)
+closed_state : (n : ℕ) (s : VisitState) → IsFair n s → n < rank_of n s → IsClosed s × (rank_of n s ≡ n + 1 + group_in s)
 closed_state n New fair high = absurd (omega arith)
 closed_state n (Open place) fair high = absurd (omega arith)
 closed_state n (Closed group) fair high = (tt, refl)
@@ -259,11 +259,11 @@ module _ (rows : List (List ℕ)) (pass : Pass) (stands : Stands rows None pass)
   count_states : length pass.states.items ≡ length rows
   count_states = sym (length-ranks pass.states.items) ∙ stands.holds.size
 
-  state_at : (f : ℕ) (d : State) → f < length rows → IsClosed (get_or pass.states.items f d)
+  state_at : (f : ℕ) (d : VisitState) → f < length rows → IsClosed (get_or pass.states.items f d)
       × (at (ranks pass.states.items) f ≡ length rows + 1 + group_in (get_or pass.states.items f d))
   state_at f d lt =
       let within : f < length pass.states.items = omega (arith, count_states) in
-      let s : State = get_or pass.states.items f d in
+      let s : VisitState = get_or pass.states.items f d in
       let rank = rank_by f s s stands lt (get_or_default pass.states.items f d s within) refl in
       let high = all_closed stands.holds none f (met f lt) in
       let closed = closed_state (length rows) s (stands.fair f d within) (omega (arith, rank)) in

@@ -7,7 +7,7 @@ mod cyclic;
 mod grouping;
 mod groups;
 mod pass;
-mod state;
+mod visit_state;
 
 pub use arc::CallArc;
 pub use grouping::groups_of;

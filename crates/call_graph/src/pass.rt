@@ -10,13 +10,13 @@ ghost use Rattle.call_graph.specs.inner.Rows.{StayWithin, lists};
 ghost use Rattle.call_graph.specs.inner.Pass.{CanLook, CanStep, IsClosed, IsCut, IsEntered, IsFinished, IsLater};
 ghost use Rattle.call_graph.specs.inner.Pass.{IsRanked, IsShut, KeepsFair, Stands, group_in, ranks, remaining};
 
-use crate::state::{Mark, State};
+use crate::visit_state::{Mark, VisitState};
 use std::alloc::{AllocError, Global};
 
 /// Where a pass stands.
 #[derive(Drop)]
 pub(crate) struct Pass {
-    pub(crate) states: Vec<State>,
+    pub(crate) states: Vec<VisitState>,
     /// The functions that are not finished, in the order in which they were met.
     pub(crate) path: Vec<usize>,
     /// Where the groups of the path begin, as far as they are known.
@@ -38,7 +38,7 @@ fn enter(pass: &mut Pass, callees: &[usize], function: usize) -> Result<(), Allo
     pass.marks.push(Mark { start, height })?;
     pass.path.push(function)?;
     pass.work.extend_from_slice(callees)?;
-    pass.states[function] = State::Open(start);
+    pass.states[function] = VisitState::Open(start);
     Ok(())
 }
 
@@ -55,13 +55,13 @@ fn join(marks: &mut Vec<Mark>, place: usize)
 }
 
 /// Puts these functions into a group.
-fn give(states: &mut [State], functions: &[usize], group: usize)
+fn give(states: &mut [VisitState], functions: &[usize], group: usize)
     requires met { All (λ f. 0 < slice_index (ranks states.old) f) functions.now }
     ensures ranked { IsRanked (ranks states.old) functions.now (length states.old + 1 + group) (ranks states.new) }
     ensures fair { KeepsFair states.old states.new }
 {
     'functions: for function in functions {
-        states[*function] = State::Closed(group);
+        states[*function] = VisitState::Closed(group);
     }
 }
 
@@ -85,12 +85,12 @@ fn look_at(pass: &mut Pass, rows: &[Vec<usize>], function: usize) -> Result<(), 
     ensures no_more { OnOk result (remaining (lists rows.now) pass.new ≤ remaining (lists rows.now) pass.old) }
 {
     match pass.states[function] {
-        State::New => enter(pass, &rows[function], function),
-        State::Open(place) => {
+        VisitState::New => enter(pass, &rows[function], function),
+        VisitState::Open(place) => {
             join(&mut pass.marks, place);
             Ok(())
         }
-        State::Closed(_) => Ok(()),
+        VisitState::Closed(_) => Ok(()),
     }
 }
 
@@ -120,7 +120,7 @@ fn visit(pass: &mut Pass, rows: &[Vec<usize>], root: usize) -> Result<(), AllocE
     ensures finished { OnOk result (length pass.new.marks.items ≡ 0) }
     ensures met { OnOk result (0 < slice_index (ranks pass.new.states.items) root) }
 {
-    if let State::New = pass.states[root] {
+    if let VisitState::New = pass.states[root] {
         enter(pass, &rows[root], root)?;
     }
     'steps: while let Some(mark) = pass.marks.last().copied() {
@@ -135,7 +135,7 @@ pub(crate) fn pass_over(alloc: Global, rows: &[Vec<usize>]) -> Result<Pass, Allo
     ensures { IfOk result (λ pass. IsFinished (lists rows.now) pass) }
 {
     let mut pass = Pass {
-        states: vec![in alloc; State::New; rows.len()]?,
+        states: vec![in alloc; VisitState::New; rows.len()]?,
         path: Vec::new(alloc),
         marks: Vec::new(alloc),
         work: Vec::new(alloc),
@@ -148,13 +148,13 @@ pub(crate) fn pass_over(alloc: Global, rows: &[Vec<usize>]) -> Result<Pass, Allo
 }
 
 /// The groups of functions that are all finished.
-pub(crate) fn groups_met(alloc: Global, states: &[State]) -> Result<Vec<usize>, AllocError>
+pub(crate) fn groups_met(alloc: Global, states: &[VisitState]) -> Result<Vec<usize>, AllocError>
     requires { All IsClosed states.now }
     ensures { IfOk result (λ numbers. numbers.items ≡ map group_in states.now) }
 {
     let mut numbers = Vec::with_capacity(alloc, states.len())?;
     'states: for state in states {
-        let State::Closed(group) = state else {
+        let VisitState::Closed(group) = state else {
             unreachable!()
         };
         numbers.push(*group)?;

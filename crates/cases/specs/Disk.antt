@@ -9,7 +9,7 @@ use Rattle.outside.specs.Files.{Files, SameBut, files_code, with_file}
 
 abbrev pub disk_code : Coded Disk
 disk_code = code_by (Files × (Bool × ℕ)) (coded× files_code (coded× coded_bool coded_ℕ))
-    (λ d. (d.files, (d.sized, d.faults))) (λ p. record { files = p.0; sized = p.1.0; faults = p.1.1 }) (λ _. refl)
+    (λ d. (d.files, (d.tells_lengths, d.faults))) (λ p. record { files = p.0; tells_lengths = p.1.0; faults = p.1.1 }) (λ _. refl)
 
 -- the name has these bytes; or memory was refused, and that one name may hold anything
 abbrev pub Sets : {U : Type 0} → List ℕ → List ℕ → Result U Error → Disk → Disk → Type 0

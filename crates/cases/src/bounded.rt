@@ -17,7 +17,7 @@ pub enum Step {
     Clear,
 }
 
-pub fn place(numbers: [u32; 3]) -> Place {
+pub fn place_of_numbers(numbers: [u32; 3]) -> Place {
     let [func, file, line] = numbers;
     Place {
         func: FuncId(func),
@@ -125,7 +125,7 @@ impl Bounded {
     {
         self.reserve()?;
         match *step {
-            Step::Line(at, counts) => self.add_line(place(at), &cost(counts)),
+            Step::Line(at, counts) => self.add_line(place_of_numbers(at), &cost(counts)),
             Step::Arc(at, counts) => self.add_arc(arc(at), &cost(counts)),
             Step::Call(at) => self.count_call(arc(at)),
             Step::Clear => self.clear(),

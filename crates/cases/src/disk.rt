@@ -19,7 +19,7 @@ pub struct Disk {
     alloc: Global,
     folder: SureFolder,
     /// Whether the length of a file is said. Of a device it is 0.
-    sized: bool,
+    tells_lengths: bool,
     /// How many bytes a call moves at most, and at least one.
     most: usize,
     /// The number of the call that fails.
@@ -36,13 +36,13 @@ impl Model for Disk {
 
     ghost coded = { disk_code };
 
-    ghost view = { λ d. record { files = d.folder.folder; sized = d.sized; faults = d.faults } };
+    ghost view = { λ d. record { files = d.folder.folder; tells_lengths = d.tells_lengths; faults = d.faults } };
 }
 
 /// An open file.
 #[derive(Drop)]
 pub struct DiskFile {
-    left: Vec<u8>,
+    rest: Vec<u8>,
     name: String,
     written: Vec<u8>,
 }
@@ -53,16 +53,22 @@ impl Model for DiskFile {
 
     ghost Value = { OpenFile };
 
-    ghost view = { λ f. record { left = f.left.items; name = string_bytes f.name; written = f.written.items } };
+    ghost view = { λ f. record { rest = f.rest.items; name = string_bytes f.name; written = f.written.items } };
 }
 
 impl Disk {
     /// These files, whose call of this number fails, and whose calls move so many bytes at a time.
-    pub fn new(alloc: Global, folder: SureFolder, sized: bool, most: usize, fails: u64) -> Disk {
+    pub fn new(
+        alloc: Global,
+        folder: SureFolder,
+        tells_lengths: bool,
+        most: usize,
+        fails: u64,
+    ) -> Disk {
         Disk {
             alloc,
             folder,
-            sized,
+            tells_lengths,
             most,
             fails,
             calls: 0,
@@ -101,7 +107,7 @@ impl FileCalls for Disk {
 
     ghost disk = { λ d. Some d };
 
-    ghost seen = { λ f. f };
+    ghost open_file = { λ f. f };
 
     fn is_regular(&mut self, _name: &str) -> bool {
         true
@@ -113,7 +119,7 @@ impl FileCalls for Disk {
             return Err(io::Error::from(io::ErrorKind::NotFound));
         };
         Ok(DiskFile {
-            left: Vec::from_slice(self.alloc, bytes)?,
+            rest: Vec::from_slice(self.alloc, bytes)?,
             name: String::new(self.alloc),
             written: Vec::new(self.alloc),
         })
@@ -121,8 +127,8 @@ impl FileCalls for Disk {
 
     fn length(&mut self, file: &DiskFile) -> io::Result<u64> {
         self.call()?;
-        Ok(if self.sized {
-            file.left.len() as u64
+        Ok(if self.tells_lengths {
+            file.rest.len() as u64
         } else {
             0
         })
@@ -130,16 +136,16 @@ impl FileCalls for Disk {
 
     fn read(&mut self, file: &mut DiskFile, room: &mut [u8]) -> io::Result<usize> {
         self.call()?;
-        let count = self.most.max(1).min(room.len()).min(file.left.len());
-        room[..count].copy_from_slice(&file.left[..count]);
-        file.left = Vec::from_slice(self.alloc, &file.left[count..])?;
+        let count = self.most.max(1).min(room.len()).min(file.rest.len());
+        room[..count].copy_from_slice(&file.rest[..count]);
+        file.rest = Vec::from_slice(self.alloc, &file.rest[count..])?;
         Ok(count)
     }
 
     fn create(&mut self, name: &str) -> io::Result<DiskFile> {
         self.call()?;
         let file = DiskFile {
-            left: Vec::new(self.alloc),
+            rest: Vec::new(self.alloc),
             name: String::from_str(self.alloc, name)?,
             written: Vec::new(self.alloc),
         };

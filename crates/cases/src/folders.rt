@@ -77,7 +77,7 @@ pub fn in_memory(rt: &HostRuntime, fails: &str, lines: &str) -> Result<()> {
 }
 
 /// The same, and prints behind the lines which calls the folder kept.
-pub fn kept(rt: &HostRuntime, fails: &str, lines: &str) -> Result<()> {
+pub fn print_kept_calls(rt: &HostRuntime, fails: &str, lines: &str) -> Result<()> {
     let folder = failing(rt.alloc(), fails)?;
     play_and_print(rt, &mut Stage { folder }, lines)
 }
@@ -135,7 +135,7 @@ pub fn on_disk(rt: &HostRuntime, given: &str, lines: &str) -> Result<()> {
     let fails = decimal(fails)?;
     let files = SureFolder::new(rt.alloc(), one_file(rt.alloc())?);
     let disk = Disk::new(rt.alloc(), files, sized == "sized", most, fails);
-    play(rt, FileFolder::over(rt.alloc(), disk), lines)
+    play(rt, FileFolder::from_calls(rt.alloc(), disk), lines)
 }
 
 /// The same over the real folder.

@@ -12,7 +12,7 @@ mod folding;
 mod names;
 mod refused;
 mod requests;
-mod shown;
+mod show_request;
 mod sinks;
 mod tables;
 
@@ -30,7 +30,7 @@ impl Scenes for Layers {
         match name {
             "names" => play(rt, &mut Names, lines),
             "memory" => folders::in_memory(rt, given, lines),
-            "kept" => folders::kept(rt, given, lines),
+            "kept" => folders::print_kept_calls(rt, given, lines),
             "sure" => folders::sure(rt, lines),
             "disk" => folders::on_disk(rt, given, lines),
             "real" => folders::real(rt, lines),

@@ -4,11 +4,11 @@ ghost use Rattle.std.specs.Prelude.{◌≡◌, ◌+◌, ◌≤◌, ◌<◌, ◌^
 ghost use Rattle.cases.specs.Within.{IsWithin};
 
 use crate::adding::add;
-use crate::bounded::{arc, cost, place};
+use crate::bounded::{arc, cost, place_of_numbers};
 use anyhow::{Context, Result, ensure};
 use arc_costs::{ArcRow, LineRow, TableRows, Tables};
-use cases_kit::Hoard;
 use byte_text::OutOfMemory;
+use cases_kit::Hoard;
 use event_costs::{ArcKey, Cost, Place};
 use std::alloc::Global;
 
@@ -21,7 +21,7 @@ pub enum Growing {
 
 /// The place of a turn.
 fn place_at(growing: Growing, turn: u32) -> Place {
-    place([1, 0, if growing == Growing::Lines { turn } else { 0 }])
+    place_of_numbers([1, 0, if growing == Growing::Lines { turn } else { 0 }])
 }
 
 /// The arc of a turn.

@@ -1,7 +1,7 @@
 //! What the words of a command ask for. The first 186 lists and their answers were written by hand; the others were
 //! drawn and answered by `data/requests/rule.py`, which has the rule anew.
 
-use crate::shown::Shown;
+use crate::show_request::ShowRequest;
 use anyhow::Result;
 use command_words::read_words;
 use script_lines::Scene;
@@ -32,6 +32,6 @@ impl Scene for Stage {
 
 fn print_request(rt: &HostRuntime, words: &[String]) -> Result<()> {
     let request = read_words(rt.alloc(), words)?;
-    println!(rt; "{}", Shown(&request))?;
+    println!(rt; "{}", ShowRequest(&request))?;
     Ok(())
 }

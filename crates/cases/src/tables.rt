@@ -4,7 +4,7 @@ ghost use Rattle.std.specs.Prelude.{◌+◌, ◌≤◌, ◌<◌, ◌^◌, ℕ, I
 ghost use Rattle.cases.specs.Within.{IsWithin};
 
 use crate::adding::add;
-use crate::bounded::{Bounded, Step, arc, cost, place};
+use crate::bounded::{Bounded, Step, arc, cost, place_of_numbers};
 use crate::refused::{Growing, print_scarce};
 use anyhow::{Result, bail, ensure};
 use arc_costs::{ArcRow, LineRow, TableRows, Tables};
@@ -132,7 +132,7 @@ fn repeated(alloc: Global, count: u32) -> Result<TableRows, OutOfMemory>
     requires { count < 2 ^ 20 }
 {
     let mut tables = Tables::new(alloc);
-    let place = place([1, 2, 3]);
+    let place = place_of_numbers([1, 2, 3]);
     let arc = arc([1, 2, 3, 4]);
     let one = cost([1, 2]);
     repeat(&mut tables, place, &arc, &one, count);

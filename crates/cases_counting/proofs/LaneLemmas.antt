@@ -6,7 +6,7 @@ use Rattle.std.proofs.lemmas.Bool.{cases_Bool}
 use Rattle.shadow_stack.specs.declared.arena.Head.{Head}
 use Rattle.shadow_stack.specs.declared.arena.Node.{Node}
 use Rattle.shadow_stack.specs.declared.frame.Frame.{Frame}
-use Rattle.shadow_stack.specs.Frames.{restarted_at, StartWithin}
+use Rattle.shadow_stack.specs.Frames.{restarted_frame, StartWithin}
 use Rattle.shadow_stack.specs.Arenas.{Link, links, frames, frames_in, keys_in, is_in, is_in_chain, AreApart}
 use Rattle.shadow_stack.specs.Arenas.{LeavesOthers, LiesIn, StillLies}
 use Rattle.shadow_stack.proofs.FrameLemmas.{StartWithin-grown, StartWithin-restarted}
@@ -118,7 +118,7 @@ begun_lanes s total one two three first second third =
     })))
 
 pub root_lane : (s : Slots) (total : List ℕ) (head : Head) (root : Frame) → LiesIn s head
-    → frames s head ≡ restarted_at total root ∷ [] → IsLane s total head
+    → frames s head ≡ restarted_frame total root ∷ [] → IsLane s total head
 root_lane s total head root lies is = record {
   lies = lies;
   starts = subst (λ (fs : List Frame). StartWithin total fs) (sym is) (StartWithin-restarted total (root ∷ []));

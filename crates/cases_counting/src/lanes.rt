@@ -6,8 +6,8 @@ ghost use Rattle.cases_counting.specs.Lanes.{IsLane, no_frames};
 
 use crate::dice::Dice;
 use crate::log::Log;
-use crate::sums::{sum_of_frame, sum_of_told};
-use crate::walk::raised;
+use crate::sums::{sum_of_frame, sum_of_tellings};
+use crate::walk::raise;
 use anyhow::{Result, ensure};
 use prof_base::{Cost, Event, OutOfMemory};
 use script_lines::number;
@@ -120,7 +120,7 @@ impl Lanes {
 
     /// One event more, of the thread of this place.
     pub fn step(&mut self, place: u32, event: &Event, syms: &SymMap) -> Result<(), OutOfMemory> {
-        self.total = raised(&self.total);
+        self.total = raise(&self.total);
         match place {
             0 => step(&mut self.arena, &mut self.one, event, syms, &self.total),
             1 => step(&mut self.arena, &mut self.two, event, syms, &self.total),
@@ -147,10 +147,10 @@ impl Lanes {
     }
 
     /// A sum with all that was told.
-    pub fn told(&self, sum: u64) -> u64 {
-        let sum = sum_of_told(sum, &self.one.log.told);
-        let sum = sum_of_told(sum, &self.two.log.told);
-        sum_of_told(sum, &self.three.log.told)
+    pub fn tellings(&self, sum: u64) -> u64 {
+        let sum = sum_of_tellings(sum, &self.one.log.tellings);
+        let sum = sum_of_tellings(sum, &self.two.log.tellings);
+        sum_of_tellings(sum, &self.three.log.tellings)
     }
 }
 
@@ -187,6 +187,6 @@ fn interleave(rt: &HostRuntime, syms: &SymMap, lanes: &mut Lanes, places: u32) -
             lanes.restart(0);
         }
     }
-    print!(rt; " {:x}", lanes.told(sum))?;
+    print!(rt; " {:x}", lanes.tellings(sum))?;
     Ok(())
 }

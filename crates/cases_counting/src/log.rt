@@ -5,7 +5,7 @@ use std::alloc::Global;
 
 /// An arc that was pushed, or closed with this number of instructions.
 #[derive(Clone, Copy, Debug, PartialEq, Eq)]
-pub enum Told {
+pub enum Telling {
     Pushed(ArcKey),
     Closed(ArcKey, u64),
 }
@@ -13,13 +13,13 @@ pub enum Told {
 /// All that was told, as far as memory allows.
 #[derive(Debug, Drop)]
 pub struct Log {
-    pub told: Vec<Told>,
+    pub tellings: Vec<Telling>,
 }
 
 impl Log {
     pub fn new(alloc: Global) -> Log {
         Log {
-            told: Vec::new(alloc),
+            tellings: Vec::new(alloc),
         }
     }
 }
@@ -29,14 +29,14 @@ impl ArcSink for Log {
 
     ghost can_take = { λ _ _. ⊤ };
 
-    ghost told = { λ _ _ _. ⊤ };
+    ghost takes = { λ _ _ _. ⊤ };
 
     fn pushed(&mut self, arc: &ArcKey) {
-        let _ = self.told.push(Told::Pushed(*arc));
+        let _ = self.tellings.push(Telling::Pushed(*arc));
     }
 
     fn closed(&mut self, arc: &ArcKey, cost: &Cost) {
-        let _ = self.told.push(Told::Closed(*arc, cost.n[0]));
+        let _ = self.tellings.push(Telling::Closed(*arc, cost.n[0]));
     }
 
     ghost takes_front = { λ _ _ _ _. tt };

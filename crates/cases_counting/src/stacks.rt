@@ -2,8 +2,8 @@
 
 use crate::dice::Dice;
 use crate::functions::{MAIN, name, print_stack};
-use crate::log::Told;
-use crate::sums::{sum_of_frame, sum_of_told};
+use crate::log::Telling;
+use crate::sums::{sum_of_frame, sum_of_tellings};
 use crate::walk::Walk;
 use crate::words::event;
 use anyhow::{Result, ensure};
@@ -17,7 +17,7 @@ use sym_map::SymMap;
 pub fn print_stacks(rt: &HostRuntime, syms: &SymMap, words: &str) -> Result<()> {
     let mut walk = Walk::new(rt.alloc(), MAIN)?;
     play(rt, syms, &mut walk, words)?;
-    print_told(rt, &walk.log().told)
+    print_tellings(rt, &walk.log().tellings)
 }
 
 /// Plays events; at `restart` frames are told, and begin again.
@@ -43,14 +43,14 @@ fn print_frames(rt: &HostRuntime, stack: &ShadowStack) -> Result<()> {
     print_stack(rt, &functions)
 }
 
-fn print_told(rt: &HostRuntime, told: &[Told]) -> Result<()> {
+fn print_tellings(rt: &HostRuntime, told: &[Telling]) -> Result<()> {
     for told in told {
         match told {
-            Told::Pushed(arc) => {
+            Telling::Pushed(arc) => {
                 print!(rt; " +")?;
                 print_arc(rt, arc)?;
             }
-            Told::Closed(arc, cost) => {
+            Telling::Closed(arc, cost) => {
                 print!(rt; " -{cost}:")?;
                 print_arc(rt, arc)?;
             }
@@ -95,7 +95,7 @@ fn roam(syms: &SymMap, dice: &mut Dice, walk: &mut Walk) -> Result<u64, OutOfMem
             walk.restart();
         }
     }
-    Ok(sum_of_told(sum, &walk.log().told))
+    Ok(sum_of_tellings(sum, &walk.log().tellings))
 }
 
 fn sum_of_frames(sum: u64, stack: &ShadowStack) -> u64 {

@@ -1,6 +1,6 @@
 //! Sums that tell lists of frames, and of what was told, from others: each number counts by its place.
 
-use crate::log::Told;
+use crate::log::Telling;
 use prof_base::ArcKey;
 use shadow_stack::{Frame, Kind};
 
@@ -43,12 +43,12 @@ pub fn sum_of_frame(sum: u64, frame: &Frame) -> u64 {
 }
 
 /// A sum with what was told: 1 for an arc that was pushed, and what a closed one has cost with 2 more.
-pub fn sum_of_told(sum: u64, told: &[Told]) -> u64 {
+pub fn sum_of_tellings(sum: u64, told: &[Telling]) -> u64 {
     let mut sum = sum;
     for told in told {
         sum = match told {
-            Told::Pushed(arc) => sum_of(sum_of_arc(sum, arc), 1),
-            Told::Closed(arc, cost) => sum_of(sum_of_arc(sum, arc), cost.wrapping_add(2)),
+            Telling::Pushed(arc) => sum_of(sum_of_arc(sum, arc), 1),
+            Telling::Closed(arc, cost) => sum_of(sum_of_arc(sum, arc), cost.wrapping_add(2)),
         };
     }
     sum

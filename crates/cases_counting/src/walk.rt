@@ -29,7 +29,7 @@ impl Model for Walk {
 }
 
 /// The total after one instruction more.
-pub fn raised(total: &Cost) -> Cost
+pub fn raise(total: &Cost) -> Cost
     ensures { AllZip (λ t s. s ≤ t) result total.now }
 {
     let mut more = *total;
@@ -59,7 +59,7 @@ impl Walk {
         if self.stack.depth() == 0 {
             return Ok(());
         }
-        let total = raised(&self.total);
+        let total = raise(&self.total);
         self.stack.after(event, syms, &total, &mut self.log);
         self.total = total;
         Ok(())

@@ -3,7 +3,7 @@
 ghost use Rattle.std.specs.Prelude.{◌≡◌, ◌≤◌, IsTrue, slice_index};
 ghost use Rattle.guest_futex.specs.Waits.{times_waiting};
 ghost use Rattle.event_costs.specs.declared.numbers.ThreadNo.{ThreadNo};
-ghost use Rattle.guest_sys.specs.Sys.{IsLive, times_live};
+ghost use Rattle.guest_sys.specs.Kernel.{IsLive, times_live};
 
 use crate::answer::Answer;
 use crate::line::Line;

@@ -72,7 +72,7 @@ impl Turning {
 
 /// What is seen of a machine.
 #[derive(Clone, Copy)]
-struct Seen {
+struct MachineView {
     running: Option<(ThreadNo, u32)>,
     threads: u32,
     steps: u64,
@@ -82,19 +82,19 @@ struct Seen {
 
 /// Prints what a machine shows, and how the run ended.
 fn look(rt: &HostRuntime, machine: &Machine) -> io::Result<()> {
-    let seen = Seen {
+    let seen = MachineView {
         running: machine.running(),
         threads: machine.threads(),
         steps: machine.steps(),
         wait: machine.last_wait(),
         woken: machine.last_woken().len(),
     };
-    print_seen(rt, &seen)?;
+    print_view(rt, &seen)?;
     print_end(rt, machine.ended())
 }
 
 /// Prints who runs where, how many threads and steps were made, and what the last step did to those that wait.
-fn print_seen(rt: &HostRuntime, seen: &Seen) -> io::Result<()> {
+fn print_view(rt: &HostRuntime, seen: &MachineView) -> io::Result<()> {
     if let Some((thread, pc)) = seen.running {
         print!(rt; "{} at {pc:#x}, ", thread.0)?;
     }

@@ -1,3 +1,3 @@
-pub mod Dripped
-pub mod Tallied
+pub mod DripState
+pub mod TallyState
 pub mod inner

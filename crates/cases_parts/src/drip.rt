@@ -16,9 +16,9 @@ pub struct Drip {
 }
 
 impl Model for Drip {
-    ghost use Rattle.cases_parts.specs.Dripped.{Dripped};
+    ghost use Rattle.cases_parts.specs.DripState.{DripState};
 
-    ghost Value = { Dripped };
+    ghost Value = { DripState };
 
     ghost view = { λ s. record { taken = s.bytes.items; faults = s.faults } };
 }

@@ -28,7 +28,7 @@ const LONG: usize = 1_000;
 
 /// What is asked of a run.
 #[derive(Clone, Copy)]
-pub struct Asked<'a> {
+pub struct RunRequest<'a> {
     /// The steps between cuts, 0 for no cuts.
     pub every: u32,
     /// The name of the function before which a cut stands.
@@ -129,7 +129,7 @@ fn run_plain(
     outside: &mut Outside,
     kept: &MemFolder,
 ) -> Result<()> {
-    let asked = Asked {
+    let asked = RunRequest {
         every,
         before: None,
         budget: BUDGET,
@@ -146,7 +146,7 @@ fn run_plain(
 /// Runs a program watched, and prints its answer, what the watch was told, and the parts.
 fn run_told(rt: &HostRuntime, program: &Program, every: u32, outside: &mut Outside) -> Result<()> {
     let mut tally = Tally::new(rt.alloc());
-    let asked = Asked {
+    let asked = RunRequest {
         every,
         before: None,
         budget: BUDGET,
@@ -189,11 +189,11 @@ fn owned(alloc: Global, name: Option<&str>) -> Result<Option<String>, AllocError
     }
 }
 
-fn options(alloc: Global, asked: &Asked<'_>) -> Result<RunOptions>
+fn options(alloc: Global, asked: &RunRequest<'_>) -> Result<RunOptions>
     ensures some_steps { IfOk result (λ o. 1 ≤ o.budget) }
     ensures few_steps { IfOk result (λ o. o.budget ≤ 10 ^ 12) }
     ensures turns { IfOk result (λ o. 1 ≤ o.quantum) }
-    ensures every { IfOk result (λ o. IfSome o.asked.every (λ n. 0 < n)) }
+    ensures every { IfOk result (λ o. IfSome o.dump_points.every (λ n. 0 < n)) }
 {
     ensure!(asked.budget > 0, "no steps");
     let (first, last) = levels([1_024, 2], [4_096, 4])?;
@@ -232,7 +232,7 @@ fn arguments(alloc: Global) -> Result<Vec<String>>
 pub fn start(
     alloc: Global,
     program: &Program,
-    asked: &Asked<'_>,
+    asked: &RunRequest<'_>,
     tally: Option<&mut Tally>,
     outside: &mut Outside,
 ) -> Result<Option<RunFault>> {
@@ -244,7 +244,7 @@ fn start_elf(
     alloc: Global,
     elf: &Elf<'_>,
     map: &SymMap,
-    asked: &Asked<'_>,
+    asked: &RunRequest<'_>,
     tally: Option<&mut Tally>,
     outside: &mut Outside,
 ) -> Result<Option<RunFault>> {
@@ -266,7 +266,7 @@ fn play(
     requires some_steps { 1 ≤ options.now.budget }
     requires few_steps { options.now.budget ≤ 10 ^ 12 }
     requires turns { 1 ≤ options.now.quantum }
-    requires every { IfSome options.now.asked.every (λ n. 0 < n) }
+    requires every { IfSome options.now.dump_points.every (λ n. 0 < n) }
 {
     let input = Vec::new(alloc);
     let Outside { folder, out, err } = outside;

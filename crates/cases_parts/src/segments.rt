@@ -1,6 +1,6 @@
 //! The segments that cuts leave of a run.
 
-use crate::runs::{Asked, BASE, Outside, start};
+use crate::runs::{BASE, Outside, RunRequest, start};
 use crate::words::name_of;
 use anyhow::{Context, Result, bail, ensure};
 use part_dump::part_name;
@@ -25,7 +25,7 @@ pub fn print_cuts(rt: &HostRuntime, program: &Program, rest: &str) -> Result<()>
     let (before, budget) = first_word(rest)?;
     let [every, ..] = small_numbers(every);
     let [budget, ..] = small_numbers(budget);
-    let asked = Asked {
+    let asked = RunRequest {
         every,
         before: name_of(before),
         budget,
@@ -35,7 +35,7 @@ pub fn print_cuts(rt: &HostRuntime, program: &Program, rest: &str) -> Result<()>
 }
 
 /// What a run with cuts leaves.
-fn cut(alloc: Global, program: &Program, asked: &Asked<'_>) -> Result<Outside> {
+fn cut(alloc: Global, program: &Program, asked: &RunRequest<'_>) -> Result<Outside> {
     let mut outside = Outside::new(alloc, 0, [0; 3])?;
     match start(alloc, program, asked, None, &mut outside)? {
         None => Ok(outside),

@@ -1,7 +1,7 @@
 //! A watch that counts its calls and sees them in order.
 
 ghost use Rattle.std.specs.Prelude.{◌≡◌, fold};
-ghost use Rattle.cases_parts.specs.Tallied.{mixed, mixed_thread, tally};
+ghost use Rattle.cases_parts.specs.TallyState.{mix_number, mix_thread, tally};
 ghost use Rattle.cases_parts.specs.inner.TallyLaw.{tally_keeps_room, tally_lasts};
 
 use arc_costs::TableRows;
@@ -23,23 +23,23 @@ pub struct Tally {
 }
 
 impl Model for Tally {
-    ghost use Rattle.cases_parts.specs.Tallied.{Tallied};
+    ghost use Rattle.cases_parts.specs.TallyState.{TallyState};
 
-    ghost Value = { Tallied };
+    ghost Value = { TallyState };
 
     ghost view = { λ w. record { calls = w.calls; order = w.order } };
 }
 
 /// Mixes one more number.
 pub fn mix(order: u64, number: u64) -> u64
-    ensures { result ≡ mixed order number }
+    ensures { result ≡ mix_number order number }
 {
     order.wrapping_mul(31).wrapping_add(number)
 }
 
 /// Mixes numbers one after another.
 pub fn mix_all(order: u64, numbers: &[u64]) -> u64
-    ensures { result ≡ fold mixed order numbers.now }
+    ensures { result ≡ fold mix_number order numbers.now }
 {
     let mut after = order;
     'numbers: for number in numbers {
@@ -50,7 +50,7 @@ pub fn mix_all(order: u64, numbers: &[u64]) -> u64
 
 /// Mixes the numbers of threads one after another.
 fn mix_threads(order: u64, threads: &[ThreadNo]) -> u64
-    ensures { result ≡ fold mixed_thread order threads.now }
+    ensures { result ≡ fold mix_thread order threads.now }
 {
     let mut after = order;
     'threads: for thread in threads {

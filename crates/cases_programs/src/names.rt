@@ -15,9 +15,9 @@ const SHORT: usize = 20;
 
 /// A text, or the front of a long one and its length.
 #[derive(Clone, Copy)]
-pub struct Told<'a>(pub &'a [u8]);
+pub struct ShownText<'a>(pub &'a [u8]);
 
-impl fmt::Display for Told<'_> {
+impl fmt::Display for ShownText<'_> {
     fn fmt<W: fmt::Write>(&self, f: &mut fmt::Formatter<W>) -> fmt::Result {
         match self.0.get(..SHORT) {
             Some(front) if self.0.len() > SHORT => {
@@ -33,9 +33,9 @@ fn tell_places(rt: &HostRuntime, map: &SymMap, addresses: &str) -> Result<()> {
     for word in addresses.split_whitespace() {
         let address = number(word)?;
         let place = map.place(address);
-        let home = Told(map.file_name(map.home(place.func)));
-        let name = Told(map.name(place.func));
-        let file = Told(map.file_name(place.file));
+        let home = ShownText(map.file_name(map.home(place.func)));
+        let name = ShownText(map.name(place.func));
+        let file = ShownText(map.file_name(place.file));
         let star = if map.is_entry(address) { "*" } else { "" };
         print!(rt; " {address:x} {home}:{name} {file}:{}{star};", place.line)?;
     }
@@ -72,7 +72,7 @@ fn tell_each(rt: &HostRuntime, map: &SymMap, range: &str) -> Result<()> {
         let func = map.place(address).func;
         let is_entry = map.is_entry(address);
         if is_entry || last != Some(func) {
-            let name = Told(map.name(func));
+            let name = ShownText(map.name(func));
             let star = if is_entry { "*" } else { "" };
             print!(rt; " {address:x} {name}{star};")?;
         }
@@ -98,7 +98,7 @@ fn tell_sum(rt: &HostRuntime, map: &SymMap, range: &str) -> Result<()> {
 fn tell_near(rt: &HostRuntime, map: &SymMap, near: &mut NearPlaces, addresses: &str) -> Result<()> {
     for word in addresses.split_whitespace() {
         let place = near.place(map, number(word)?);
-        print!(rt; " {}", Told(map.name(place.func)))?;
+        print!(rt; " {}", ShownText(map.name(place.func)))?;
     }
     print!(rt; ";")?;
     Ok(())
@@ -136,8 +136,8 @@ fn tell_way(rt: &HostRuntime, map: &SymMap, near: &mut NearPlaces, way: &str) ->
         place: map.place(pc),
         next_func: map.place(next).func,
     };
-    let from = Told(map.name(searched.place.func));
-    let to = Told(map.name(searched.next_func));
+    let from = ShownText(map.name(searched.place.func));
+    let to = ShownText(map.name(searched.next_func));
     print!(rt; " {pc:x}>{next:x} {from} {to}")?;
     if !are_same(&near.way(map, pc, next), &searched) || !are_same(&map.way(pc, next), &searched) {
         print!(rt; " differs")?;

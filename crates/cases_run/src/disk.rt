@@ -2,7 +2,7 @@
 
 use crate::process::{exit_of, status_of};
 use anyhow::{Context, Result};
-use cases_script::{Left, command_words, print_calls};
+use cases_script::{Leavings, command_words, print_calls};
 use outside::{DirFolder, FolderCall, Traced};
 use std::process::ExitCode;
 
@@ -12,7 +12,7 @@ pub fn run(rt: &HostRuntime, line: &str) -> Result<()> {
     let alloc = rt.alloc();
     let words = command_words(alloc, line)?;
     let mut folder = Traced::new(alloc, DirFolder::new(rt));
-    let mut left = Left::new(alloc);
+    let mut left = Leavings::new(alloc);
     let code = exit_of(alloc, words, &mut folder, &mut left.out, &mut left.err);
     print(rt, code, folder.calls(), &left)
 }
@@ -21,7 +21,7 @@ fn print(
     rt: &HostRuntime,
     code: ExitCode,
     calls: Option<&[FolderCall]>,
-    left: &Left,
+    left: &Leavings,
 ) -> Result<()> {
     println!(rt; "status {}", status_of(code)?)?;
     print_calls(rt, calls.context("a call could not be kept")?)?;

@@ -3,7 +3,7 @@
 use crate::disk;
 use crate::process::{exit_of, status_of};
 use anyhow::{Result, ensure};
-use cases_script::{Left, Setting, command_words};
+use cases_script::{Leavings, Setting, command_words};
 use script_lines::Scene;
 use std::alloc::Global;
 use std::process::ExitCode;
@@ -53,14 +53,14 @@ fn run(rt: &HostRuntime, setting: &mut Setting, line: &str) -> Result<()> {
         run_in_pieces(rt.alloc(), setting, line, code)?;
     }
     println!(rt; "status {}", status_of(code)?)?;
-    setting.print_left(rt)
+    setting.print_leavings(rt)
 }
 
 /// Does a command, without memory where that is asked for, and answers what a process ends with.
 fn run_once(alloc: Global, setting: &mut Setting, line: &str) -> Result<ExitCode> {
     let words = command_words(alloc, line)?;
     let hoard = setting.hoard()?;
-    let code = run_over(alloc, words, &mut setting.left);
+    let code = run_over(alloc, words, &mut setting.leavings);
     drop(hoard);
     Ok(code)
 }
@@ -71,9 +71,9 @@ fn run_in_pieces(alloc: Global, setting: &Setting, line: &str, code: ExitCode) -
     let mut left = setting.in_pieces()?;
     let other = run_over(alloc, words, &mut left);
     ensure!(other == code, "pieces change the status");
-    setting.left.hold(&left)
+    setting.leavings.hold(&left)
 }
 
-fn run_over(alloc: Global, words: Vec<String>, left: &mut Left) -> ExitCode {
+fn run_over(alloc: Global, words: Vec<String>, left: &mut Leavings) -> ExitCode {
     exit_of(alloc, words, &mut left.folder, &mut left.out, &mut left.err)
 }

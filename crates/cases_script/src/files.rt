@@ -57,7 +57,7 @@ impl Files {
     /// Adds a file: its name, and what it is made of.
     fn add_made(&mut self, word: &str, rest: &str) -> Result<()> {
         let (name, text) = first_word(rest)?;
-        let bytes = made(self.alloc, word, text)?;
+        let bytes = make_bytes(self.alloc, word, text)?;
         self.add(name, bytes)
     }
 
@@ -105,7 +105,7 @@ impl Files {
 }
 
 /// The bytes that a text says: lines, lines that are repeated, so many zeros, or the bytes themselves.
-fn made(alloc: Global, word: &str, text: &str) -> Result<Vec<u8>> {
+fn make_bytes(alloc: Global, word: &str, text: &str) -> Result<Vec<u8>> {
     match word {
         "text" => Ok(lines_of(alloc, text)?.into_bytes()),
         "each" => Ok(repeated(alloc, text)?.into_bytes()),

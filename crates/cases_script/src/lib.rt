@@ -6,12 +6,12 @@ mod calls;
 mod description;
 mod fails;
 mod files;
-mod left;
+mod leavings;
 mod setting;
 mod texts;
 mod words;
 
 pub use calls::print_calls;
-pub use left::Left;
+pub use leavings::Leavings;
 pub use setting::Setting;
 pub use texts::command_words;

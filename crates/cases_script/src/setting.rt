@@ -3,7 +3,7 @@
 use crate::description::Description;
 use crate::fails::Fails;
 use crate::files::Files;
-use crate::left::Left;
+use crate::leavings::Leavings;
 use anyhow::{Context, Result, bail};
 use cases_kit::Hoard;
 use script_lines::first_word;
@@ -19,7 +19,7 @@ pub struct Setting {
     /// What fails in the next command.
     fails: Fails,
     /// What the last command left.
-    pub left: Left,
+    pub leavings: Leavings,
 }
 
 impl Setting {
@@ -30,7 +30,7 @@ impl Setting {
             files: Files::new(alloc),
             program: Description::new(alloc),
             fails: Fails::new(alloc),
-            left: Left::new(alloc),
+            leavings: Leavings::new(alloc),
         }
     }
 
@@ -61,19 +61,19 @@ impl Setting {
     /// Adds a file that the last command left: its name there, and the name that it gets.
     fn keep(&mut self, rest: &str) -> Result<()> {
         let (old, name) = first_word(rest)?;
-        let bytes = self.left.folder.file(old).context("a file is missing")?;
+        let bytes = self.leavings.folder.file(old).context("a file is missing")?;
         self.files.add(name, Vec::from_slice(self.alloc, bytes)?)
     }
 
     /// Prints what a line asks for of what the last command left: `whole` and `lines` a file, and `out` its output.
     pub fn show(&self, rt: &HostRuntime, word: &str, rest: &str) -> Result<()> {
         match word {
-            "whole" => self.left.print_lines(rt, "", rest),
+            "whole" => self.leavings.print_lines(rt, "", rest),
             "lines" => {
                 let (name, front) = first_word(rest)?;
-                self.left.print_lines(rt, front, name)
+                self.leavings.print_lines(rt, front, name)
             }
-            "out" => self.left.print_output(rt, rest),
+            "out" => self.leavings.print_output(rt, rest),
             _ => bail!("no such line"),
         }
     }
@@ -85,13 +85,13 @@ impl Setting {
 
     /// Lays out the folder and the sinks of the next command, whose calls fail as was said.
     pub fn lay_out(&mut self) -> Result<()> {
-        self.left = Left::laid_out(self.alloc, &self.files, &mut self.fails)?;
+        self.leavings = Leavings::laid_out(self.alloc, &self.files, &mut self.fails)?;
         Ok(())
     }
 
     /// What a command is done over again whose sinks take a piece at a time.
-    pub fn in_pieces(&self) -> Result<Left> {
-        self.left.in_pieces(self.alloc, &self.files)
+    pub fn in_pieces(&self) -> Result<Leavings> {
+        self.leavings.in_pieces(self.alloc, &self.files)
     }
 
     /// All memory, where the next command is to have none.
@@ -100,8 +100,8 @@ impl Setting {
     }
 
     /// Prints what the sinks have taken, and which files have changed.
-    pub fn print_left(&self, rt: &HostRuntime) -> Result<()> {
-        self.left.print_taken(rt)?;
-        self.files.print_changes(rt, &self.left.folder)
+    pub fn print_leavings(&self, rt: &HostRuntime) -> Result<()> {
+        self.leavings.print_taken(rt)?;
+        self.files.print_changes(rt, &self.leavings.folder)
     }
 }

@@ -2,10 +2,10 @@
 use Rattle.std.specs.Prelude.{ℕ, ◌++◌, List, [], ◌∷◌, codes, decimal}
 use Rattle.cache_lru.specs.Shape.{Shape}
 use Rattle.event_costs.specs.Costs.{event_names, events_shown}
-use Rattle.byte_text.specs.Names.{cleaned}
+use Rattle.byte_text.specs.Names.{clean_name}
 use Rattle.cg_format.specs.declared.trigger.Trigger.{Trigger}
 use Rattle.cg_format.specs.declared.trigger.Trigger.TheVariants.{Every, Before, After, Termination}
-use Rattle.cg_format.specs.Marks.{cost_text, spaced}
+use Rattle.cg_format.specs.Marks.{cost_text, words_text}
 use Rattle.cg_format.specs.declared.head.PartHead.{PartHead}
 
 -- a cache's size, line length and associativity
@@ -17,8 +17,8 @@ cache_text name shape =
 -- why the part ends
 abbrev pub trigger_text : Trigger → List ℕ
 trigger_text (Every steps) = codes "--dump-every=" ++ decimal steps
-trigger_text (Before name) = codes "--dump-before=" ++ cleaned name
-trigger_text (After name) = codes "--dump-after=" ++ cleaned name
+trigger_text (Before name) = codes "--dump-before=" ++ clean_name name
+trigger_text (After name) = codes "--dump-after=" ++ clean_name name
 trigger_text Termination = codes "Program termination"
 
 -- the format, the part and the command
@@ -30,7 +30,7 @@ identity_lines head =
     ∷ codes "pid: 1"
     ∷ (codes "thread: " ++ decimal head.thread.0)
     ∷ (codes "part: " ++ decimal head.part)
-    ∷ (codes "cmd: " ++ cleaned head.cmd)
+    ∷ (codes "cmd: " ++ clean_name head.cmd)
     ∷ []
 
 -- the caches, and why the part ends
@@ -45,7 +45,7 @@ description_lines head =
 -- the events shown, and the sum of the line rows
 abbrev pub summary_lines : PartHead → List ℕ → List (List ℕ)
 summary_lines head sum =
-    (codes "events:" ++ spaced (events_shown head.branch event_names))
+    (codes "events:" ++ words_text (events_shown head.branch event_names))
     ∷ (codes "summary:" ++ cost_text (events_shown head.branch sum))
     ∷ []
 
@@ -59,7 +59,7 @@ heading head sum = identity_lines head ++ description_lines head ++ event_lines 
 
 -- the object, the program's name
 abbrev pub object_line : PartHead → List ℕ
-object_line head = codes "ob=(1) " ++ cleaned head.object
+object_line head = codes "ob=(1) " ++ clean_name head.object
 
 -- the last line
 abbrev pub totals : PartHead → List ℕ → List ℕ

@@ -26,19 +26,19 @@ pub data Mark : Type 0 where
 abbrev pub is_in : List ℕ → ℕ → Bool
 is_in written number = list_any (λ other. number == other) written
 
-abbrev pub added : List ℕ → ℕ → List ℕ
-added written number = if is_in written number then written else written ++ number ∷ []
+abbrev pub add_number : List ℕ → ℕ → List ℕ
+add_number written number = if is_in written number then written else written ++ number ∷ []
 
 -- the files and the functions written so far, in the order of first writing
 abbrev pub files : List Mark → List ℕ
 files [] = []
-files (File key file ∷ before) = added (files before) file.0
+files (File key file ∷ before) = add_number (files before) file.0
 files (_ ∷ before) = files before
 
 abbrev pub functions : List Mark → List ℕ
 functions [] = []
-functions (Function function ∷ before) = added (functions before) function.0
-functions (Callee function ∷ before) = added (functions before) function.0
+functions (Function function ∷ before) = add_number (functions before) function.0
+functions (Callee function ∷ before) = add_number (functions before) function.0
 functions (_ ∷ before) = functions before
 
 -- ids count from 1 in the order of first writing
@@ -46,15 +46,15 @@ abbrev pub id : List ℕ → ℕ → ℕ
 id written number = position_or_len (λ other. number == other) written + 1
 
 -- an id, with the name where it is written for the first time
-abbrev pub named : List ℕ → ℕ → List ℕ → List ℕ
-named written number name =
+abbrev pub id_text : List ℕ → ℕ → List ℕ → List ℕ
+id_text written number name =
     codes "(" ++ decimal (id written number) ++ codes ")" ++ (if is_in written number then [] else codes " " ++ name)
 
 -- Lines
 
 -- texts, and numbers, each after a space
-abbrev pub spaced : List (List ℕ) → List ℕ
-spaced texts = flat_map (λ text. codes " " ++ text) texts
+abbrev pub words_text : List (List ℕ) → List ℕ
+words_text texts = flat_map (λ text. codes " " ++ text) texts
 
 abbrev pub cost_text : List ℕ → List ℕ
 cost_text costs = flat_map (λ n. codes " " ++ decimal n) costs
@@ -66,15 +66,15 @@ key_text Back = codes "fe="
 key_text OfCallee = codes "cfi="
 
 -- the line that says this after these lines
-abbrev pub spelled : SymbolMap → List Mark → Mark → List ℕ
-spelled m before (Plain text) = text
-spelled m before (File key file) = key_text key ++ named (files before) file.0 (file_text m file)
-spelled m before (Function function) = codes "fn=" ++ named (functions before) function.0 (identity_of m function).name
-spelled m before (Callee function) = codes "cfn=" ++ named (functions before) function.0 (identity_of m function).name
-spelled m before (Calls calls line) = codes "calls=" ++ decimal calls ++ codes " " ++ decimal line
-spelled m before (Costs line costs) = decimal line ++ cost_text costs
+abbrev pub mark_text : SymbolMap → List Mark → Mark → List ℕ
+mark_text m before (Plain text) = text
+mark_text m before (File key file) = key_text key ++ id_text (files before) file.0 (file_text m file)
+mark_text m before (Function function) = codes "fn=" ++ id_text (functions before) function.0 (identity_of m function).name
+mark_text m before (Callee function) = codes "cfn=" ++ id_text (functions before) function.0 (identity_of m function).name
+mark_text m before (Calls calls line) = codes "calls=" ++ decimal calls ++ codes " " ++ decimal line
+mark_text m before (Costs line costs) = decimal line ++ cost_text costs
 
 -- the text of a history: each line ends with a line feed
 abbrev pub text_of : SymbolMap → List Mark → List ℕ
 text_of m [] = []
-text_of m (mark ∷ before) = text_of m before ++ spelled m before mark ++ codes "\n"
+text_of m (mark ∷ before) = text_of m before ++ mark_text m before mark ++ codes "\n"

@@ -16,8 +16,8 @@ abbrev pub file_of : Row → FileId
 file_of (Line row) = row.place.file
 file_of (Arc row) = row.arc.file
 
-abbrev pub is_of : ℕ → Row → Bool
-is_of function row = (function_of row).0 == function
+abbrev pub is_row_of : ℕ → Row → Bool
+is_row_of function row = (function_of row).0 == function
 
 -- the numbers from 0 on, so many of them
 abbrev pub below : ℕ → List ℕ
@@ -30,4 +30,4 @@ all_rows rows = map Line rows.lines ++ map Arc rows.arcs
 
 -- By rising function, of which there are so many; the rows of a function stay in their order.
 abbrev pub by_function : ℕ → List Row → List Row
-by_function functions rows = flat_map (λ function. filter (is_of function) rows) (below functions)
+by_function functions rows = flat_map (λ function. filter (is_row_of function) rows) (below functions)

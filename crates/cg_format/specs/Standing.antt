@@ -13,7 +13,7 @@ IsKnown m (Line row) = IsKnownLine m row
 IsKnown m (Arc row) = IsKnownArc m row
 
 -- a writer has written these lines
-pub record Wrote (m : SymbolMap) (lines : List Mark) (w : Writer) : Type 0 where
+pub record WriterState (m : SymbolMap) (lines : List Mark) (w : Writer) : Type 0 where
   pub text : w.text ≡ text_of m lines
   pub files : w.files ≡ files lines
   pub functions : w.functions ≡ functions lines

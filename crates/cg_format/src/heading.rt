@@ -2,15 +2,15 @@
 
 ghost use Rattle.std.specs.Prelude.{◌≡◌, ◌++◌, ◌∷◌, [], List, IfOk, OnOk, map, reverse};
 ghost use Rattle.event_costs.specs.Costs.{IsWhole};
-ghost use Rattle.byte_text.specs.Names.{cleaned};
+ghost use Rattle.byte_text.specs.Names.{clean_name};
 ghost use Rattle.sym_map.specs.SymbolMap.{SymbolMap};
 ghost use Rattle.cg_format.specs.Heading.{cache_text, description_lines, event_lines, heading};
 ghost use Rattle.cg_format.specs.Heading.{identity_lines, summary_lines, totals, trigger_text};
 ghost use Rattle.cg_format.specs.Marks.{Mark, Plain};
-ghost use Rattle.cg_format.specs.Standing.{Wrote};
+ghost use Rattle.cg_format.specs.Standing.{WriterState};
 
 use crate::head::PartHead;
-use crate::sums::shown;
+use crate::sums::shown_sums;
 use crate::trigger::Trigger;
 use crate::writer::Writer;
 use byte_text::{OutOfMemory, Text, clean_name};
@@ -35,7 +35,7 @@ fn cache_text(alloc: Global, name: &[u8], cache: Geometry) -> Result<Text, OutOf
 
 /// An option of the command with a cleaned name as its value.
 fn option_text(alloc: Global, option: &[u8], name: &Text) -> Result<Text, OutOfMemory>
-    ensures { IfOk result (λ text. text ≡ option.now ++ cleaned name.now) }
+    ensures { IfOk result (λ text. text ≡ option.now ++ clean_name name.now) }
 {
     let mut text = Text::from_bytes(alloc, option)?;
     text.push(clean_name(alloc, name.as_bytes())?.as_bytes())?;
@@ -60,8 +60,8 @@ fn trigger_text(alloc: Global, trigger: &Trigger) -> Result<Text, OutOfMemory>
 
 /// Writes the format, the part and the command.
 pub fn put_identity(alloc: Global, writer: &mut Writer, head: &PartHead) -> Result<(), OutOfMemory>
-    ensures { (m : SymbolMap) (before : List Mark) → Wrote m before writer.old
-        → OnOk result (Wrote m (reverse (map Plain (identity_lines head.now)) ++ before) writer.new) }
+    ensures { (m : SymbolMap) (before : List Mark) → WriterState m before writer.old
+        → OnOk result (WriterState m (reverse (map Plain (identity_lines head.now)) ++ before) writer.new) }
 {
     let command = clean_name(alloc, head.cmd.as_bytes())?;
     writer.put_line(b"# callgrind format", b"")?;
@@ -79,8 +79,8 @@ pub fn put_description(
     writer: &mut Writer,
     head: &PartHead,
 ) -> Result<(), OutOfMemory>
-    ensures { (m : SymbolMap) (before : List Mark) → Wrote m before writer.old
-        → OnOk result (Wrote m (reverse (map Plain (description_lines head.now)) ++ before) writer.new) }
+    ensures { (m : SymbolMap) (before : List Mark) → WriterState m before writer.old
+        → OnOk result (WriterState m (reverse (map Plain (description_lines head.now)) ++ before) writer.new) }
 {
     let i1 = cache_text(alloc, b"I1", head.i1)?;
     let d1 = cache_text(alloc, b"D1", head.d1)?;
@@ -95,18 +95,18 @@ pub fn put_description(
 /// Writes the events shown, and the sum of the line rows.
 pub fn put_summary(writer: &mut Writer, head: &PartHead, sum: &[u128]) -> Result<(), OutOfMemory>
     requires { IsWhole sum.now }
-    ensures { (m : SymbolMap) (before : List Mark) → Wrote m before writer.old
-        → OnOk result (Wrote m (reverse (map Plain (summary_lines head.now sum.now)) ++ before) writer.new) }
+    ensures { (m : SymbolMap) (before : List Mark) → WriterState m before writer.old
+        → OnOk result (WriterState m (reverse (map Plain (summary_lines head.now sum.now)) ++ before) writer.new) }
 {
     writer.put_names(b"events:", event_names_shown(head.branch))?;
-    writer.put_sums(b"summary:", shown(head.branch, sum))
+    writer.put_sums(b"summary:", shown_sums(head.branch, sum))
 }
 
 /// Writes that positions are lines, the events shown, and the sum of the line rows.
 fn put_events(writer: &mut Writer, head: &PartHead, sum: &[u128]) -> Result<(), OutOfMemory>
     requires { IsWhole sum.now }
-    ensures { (m : SymbolMap) (before : List Mark) → Wrote m before writer.old
-        → OnOk result (Wrote m (reverse (map Plain (event_lines head.now sum.now)) ++ before) writer.new) }
+    ensures { (m : SymbolMap) (before : List Mark) → WriterState m before writer.old
+        → OnOk result (WriterState m (reverse (map Plain (event_lines head.now sum.now)) ++ before) writer.new) }
 {
     writer.put_line(b"positions: line", b"")?;
     put_summary(writer, head, sum)
@@ -120,8 +120,8 @@ pub(crate) fn put_heading(
     sum: &[u128],
 ) -> Result<(), OutOfMemory>
     requires { IsWhole sum.now }
-    ensures { (m : SymbolMap) (before : List Mark) → Wrote m before writer.old
-        → OnOk result (Wrote m (reverse (map Plain (heading head.now sum.now)) ++ before) writer.new) }
+    ensures { (m : SymbolMap) (before : List Mark) → WriterState m before writer.old
+        → OnOk result (WriterState m (reverse (map Plain (heading head.now sum.now)) ++ before) writer.new) }
 {
     put_identity(alloc, writer, head)?;
     put_description(alloc, writer, head)?;
@@ -131,9 +131,9 @@ pub(crate) fn put_heading(
 /// Writes the end: an empty line and the sum of the line rows.
 pub fn put_totals(writer: &mut Writer, head: &PartHead, sum: &[u128]) -> Result<(), OutOfMemory>
     requires { IsWhole sum.now }
-    ensures { (m : SymbolMap) (before : List Mark) → Wrote m before writer.old
-        → OnOk result (Wrote m (Plain (totals head.now sum.now) ∷ (Plain [] ∷ before)) writer.new) }
+    ensures { (m : SymbolMap) (before : List Mark) → WriterState m before writer.old
+        → OnOk result (WriterState m (Plain (totals head.now sum.now) ∷ (Plain [] ∷ before)) writer.new) }
 {
     writer.put_line(b"", b"")?;
-    writer.put_sums(b"totals:", shown(head.branch, sum))
+    writer.put_sums(b"totals:", shown_sums(head.branch, sum))
 }

@@ -1,7 +1,7 @@
 //! Ids that stand for names which were written before.
 
 ghost use Rattle.std.specs.Prelude.{◌≡◌, [], ◌==◌, IfOk, OnOk, length, not};
-ghost use Rattle.cg_format.specs.Marks.{added, id, is_in};
+ghost use Rattle.cg_format.specs.Marks.{add_number, id, is_in};
 
 use arc_costs::KeyTree;
 use byte_text::OutOfMemory;
@@ -48,7 +48,7 @@ impl Ids {
 
     /// The id of a file or a function by its number.
     pub(crate) fn id_of(&mut self, number: u64) -> Result<Id, OutOfMemory>
-        ensures written { OnOk result (self.new ≡ added self.old number) }
+        ensures written { OnOk result (self.new ≡ add_number self.old number) }
         ensures number { IfOk result (λ r. r.number ≡ id self.old number) }
         ensures is_new { IfOk result (λ r. r.is_new ≡ not (is_in self.old number)) }
     {

@@ -6,7 +6,7 @@ ghost use Rattle.cg_format.specs.Marks.{Mark, Calls};
 ghost use Rattle.cg_format.specs.Part.{AreKnown, after_row, at_row, in_function, in_object};
 ghost use Rattle.cg_format.specs.Part.{part_text, place_key, row_lines};
 ghost use Rattle.cg_format.specs.Rows.{file_of, function_of};
-ghost use Rattle.cg_format.specs.Standing.{IsKnown, Wrote};
+ghost use Rattle.cg_format.specs.Standing.{IsKnown, WriterState};
 
 use crate::file_key::FileKey;
 use crate::head::PartHead;
@@ -23,8 +23,8 @@ use sym_map::SymMap;
 
 /// Writes the object above the first function.
 fn put_object(alloc: Global, writer: &mut Writer, head: &PartHead) -> Result<(), OutOfMemory>
-    ensures { (m : SymbolMap) (before : List Mark) → Wrote m before writer.old
-        → OnOk result (Wrote m (in_object head.now before) writer.new) }
+    ensures { (m : SymbolMap) (before : List Mark) → WriterState m before writer.old
+        → OnOk result (WriterState m (in_object head.now before) writer.new) }
 {
     if !writer.functions.is_empty() {
         return Ok(());
@@ -42,8 +42,8 @@ fn enter_function<N: Naming>(
     function: ContextNo,
 ) -> Result<(), OutOfMemory>
     requires { IsFunc (N.map names.now) function }
-    ensures { (before : List Mark) → Wrote (N.map names.now) before writer.old
-        → OnOk result (Wrote (N.map names.now) (in_function head.now (N.map names.now) function before) writer.new) }
+    ensures { (before : List Mark) → WriterState (N.map names.now) before writer.old
+        → OnOk result (WriterState (N.map names.now) (in_function head.now (N.map names.now) function before) writer.new) }
 {
     if writer.is_in_function(function) {
         return Ok(());
@@ -75,8 +75,8 @@ pub fn put_place<N: Naming>(
     row: &Row,
 ) -> Result<(), OutOfMemory>
     requires { IsKnown (N.map names.now) row.now }
-    ensures { (before : List Mark) → Wrote (N.map names.now) before writer.old
-        → OnOk result (Wrote (N.map names.now) (at_row head.now (N.map names.now) before row.now) writer.new) }
+    ensures { (before : List Mark) → WriterState (N.map names.now) before writer.old
+        → OnOk result (WriterState (N.map names.now) (at_row head.now (N.map names.now) before row.now) writer.new) }
 {
     let function = row.function();
     let file = row.file();
@@ -91,8 +91,8 @@ fn put_call_count<N: Naming>(
     row: &ArcRow<ContextNo>,
 ) -> Result<(), OutOfMemory>
     requires { IsFunc (N.map names.now) row.now.arc.callee }
-    ensures { (before : List Mark) → Wrote (N.map names.now) before writer.old
-        → OnOk result (Wrote (N.map names.now) (Calls row.now.calls (entry_line_of (N.map names.now) row.now.arc.callee)
+    ensures { (before : List Mark) → WriterState (N.map names.now) before writer.old
+        → OnOk result (WriterState (N.map names.now) (Calls row.now.calls (entry_line_of (N.map names.now) row.now.arc.callee)
         ∷ before) writer.new) }
 {
     writer.put_calls(row.calls, names.entry_line(row.arc.callee))
@@ -106,15 +106,15 @@ fn put_arc<N: Naming>(
     row: &ArcRow<ContextNo>,
 ) -> Result<(), OutOfMemory>
     requires { IsFunc (N.map names.now) row.now.arc.callee }
-    ensures { (before : List Mark) → Wrote (N.map names.now) before writer.old
-        → OnOk result (Wrote (N.map names.now) (row_lines head.now (N.map names.now) before (Row.Arc row.now))
+    ensures { (before : List Mark) → WriterState (N.map names.now) before writer.old
+        → OnOk result (WriterState (N.map names.now) (row_lines head.now (N.map names.now) before (Row.Arc row.now))
         writer.new) }
 {
     let callee = row.arc.callee;
     writer.enter_file(names, FileKey::OfCallee, names.home(callee))?;
     writer.put_callee(names, callee)?;
     put_call_count(writer, names, row)?;
-    writer.put_costs(row.arc.line, row.cost.shown(head.branch))
+    writer.put_costs(row.arc.line, row.cost.shown_numbers(head.branch))
 }
 
 /// Writes a row.
@@ -126,12 +126,12 @@ fn put_row<N: Naming>(
     row: &Row,
 ) -> Result<(), OutOfMemory>
     requires { IsKnown (N.map names.now) row.now }
-    ensures { (before : List Mark) → Wrote (N.map names.now) before writer.old
-        → OnOk result (Wrote (N.map names.now) (after_row head.now (N.map names.now) before row.now) writer.new) }
+    ensures { (before : List Mark) → WriterState (N.map names.now) before writer.old
+        → OnOk result (WriterState (N.map names.now) (after_row head.now (N.map names.now) before row.now) writer.new) }
 {
     put_place(alloc, writer, head, names, row)?;
     match row {
-        Row::Line(row) => writer.put_costs(row.place.line, row.cost.shown(head.branch)),
+        Row::Line(row) => writer.put_costs(row.place.line, row.cost.shown_numbers(head.branch)),
         Row::Arc(row) => put_arc(writer, head, names, row),
     }
 }

@@ -32,7 +32,7 @@ fn add_numbers(sums: &mut [u128], numbers: &[u64])
 }
 
 /// The numbers of the events shown.
-pub(crate) fn shown(branches: bool, sums: &[u128]) -> &[u128]
+pub(crate) fn shown_sums(branches: bool, sums: &[u128]) -> &[u128]
     requires { IsWhole sums.now }
     ensures { result.now ≡ events_shown branches sums.now }
 {

@@ -3,9 +3,9 @@
 ghost use Rattle.std.specs.Prelude.{◌≡◌, ◌++◌, ◌∷◌, [], List, OnOk, decimal, map};
 ghost use Rattle.sym_map.specs.SymbolMap.{IsFile, IsFunc, SymbolMap};
 ghost use Rattle.cg_format.specs.Marks.{Mark, Plain, File, Function, Callee, Calls};
-ghost use Rattle.cg_format.specs.Marks.{Costs, added, cost_text, named, spaced};
+ghost use Rattle.cg_format.specs.Marks.{Costs, add_number, cost_text, id_text, words_text};
 ghost use Rattle.cg_format.specs.Part.{is_file, is_function, in_file};
-ghost use Rattle.cg_format.specs.Standing.{Wrote};
+ghost use Rattle.cg_format.specs.Standing.{WriterState};
 
 use crate::file_key::FileKey;
 use crate::ids::Ids;
@@ -54,7 +54,7 @@ fn push_sums(text: &mut Text, sums: &[u128]) -> Result<(), OutOfMemory>
 
 /// Appends names, each after a space.
 fn push_names(text: &mut Text, names: &[&str]) -> Result<(), OutOfMemory>
-    ensures { OnOk result (text.new ≡ text.old ++ spaced (map (λ name. name.now) names.now)) }
+    ensures { OnOk result (text.new ≡ text.old ++ words_text (map (λ name. name.now) names.now)) }
 {
     'names: for name in names {
         text.push(b" ")?;
@@ -65,8 +65,8 @@ fn push_names(text: &mut Text, names: &[&str]) -> Result<(), OutOfMemory>
 
 /// Appends an id, and a name after it that is written for the first time.
 fn push_named(text: &mut Text, ids: &mut Ids, number: u64, name: &[u8]) -> Result<(), OutOfMemory>
-    ensures text { OnOk result (text.new ≡ text.old ++ named ids.old number name.now) }
-    ensures ids { OnOk result (ids.new ≡ added ids.old number) }
+    ensures text { OnOk result (text.new ≡ text.old ++ id_text ids.old number name.now) }
+    ensures ids { OnOk result (ids.new ≡ add_number ids.old number) }
 {
     let id = ids.id_of(number)?;
     text.push(b"(")?;
@@ -82,7 +82,7 @@ fn push_named(text: &mut Text, ids: &mut Ids, number: u64, name: &[u8]) -> Resul
 impl Writer {
     /// A writer that has written nothing.
     pub fn new(alloc: Global) -> Writer
-        ensures { (m : SymbolMap) → Wrote m [] result }
+        ensures { (m : SymbolMap) → WriterState m [] result }
     {
         Writer {
             text: Text::new(alloc),
@@ -95,8 +95,8 @@ impl Writer {
 
     /// Writes a line of two pieces.
     pub fn put_line(&mut self, key: &[u8], value: &[u8]) -> Result<(), OutOfMemory>
-        ensures { (m : SymbolMap) (before : List Mark) → Wrote m before self.old
-            → OnOk result (Wrote m (Plain (key.now ++ value.now) ∷ before) self.new) }
+        ensures { (m : SymbolMap) (before : List Mark) → WriterState m before self.old
+            → OnOk result (WriterState m (Plain (key.now ++ value.now) ∷ before) self.new) }
     {
         self.text.push(key)?;
         self.text.push(value)?;
@@ -105,8 +105,8 @@ impl Writer {
 
     /// Writes a line of a key and a number.
     pub(crate) fn put_number(&mut self, key: &[u8], number: u32) -> Result<(), OutOfMemory>
-        ensures { (m : SymbolMap) (before : List Mark) → Wrote m before self.old
-            → OnOk result (Wrote m (Plain (key.now ++ decimal number) ∷ before) self.new) }
+        ensures { (m : SymbolMap) (before : List Mark) → WriterState m before self.old
+            → OnOk result (WriterState m (Plain (key.now ++ decimal number) ∷ before) self.new) }
     {
         self.text.push(key)?;
         self.text.push_number(u64::from(number))?;
@@ -115,8 +115,8 @@ impl Writer {
 
     /// Writes a line of a key and names.
     pub(crate) fn put_names(&mut self, key: &[u8], names: &[&str]) -> Result<(), OutOfMemory>
-        ensures { (m : SymbolMap) (before : List Mark) → Wrote m before self.old
-            → OnOk result (Wrote m (Plain (key.now ++ spaced (map (λ name. name.now) names.now)) ∷ before) self.new) }
+        ensures { (m : SymbolMap) (before : List Mark) → WriterState m before self.old
+            → OnOk result (WriterState m (Plain (key.now ++ words_text (map (λ name. name.now) names.now)) ∷ before) self.new) }
     {
         self.text.push(key)?;
         push_names(&mut self.text, names)?;
@@ -125,8 +125,8 @@ impl Writer {
 
     /// Writes a line of a key and sums.
     pub(crate) fn put_sums(&mut self, key: &[u8], sums: &[u128]) -> Result<(), OutOfMemory>
-        ensures { (m : SymbolMap) (before : List Mark) → Wrote m before self.old
-            → OnOk result (Wrote m (Plain (key.now ++ cost_text sums.now) ∷ before) self.new) }
+        ensures { (m : SymbolMap) (before : List Mark) → WriterState m before self.old
+            → OnOk result (WriterState m (Plain (key.now ++ cost_text sums.now) ∷ before) self.new) }
     {
         self.text.push(key)?;
         push_sums(&mut self.text, sums)?;
@@ -141,8 +141,8 @@ impl Writer {
         file: FileId,
     ) -> Result<(), OutOfMemory>
         requires { IsFile (N.map names.now) file }
-        ensures { (before : List Mark) → Wrote (N.map names.now) before self.old
-            → OnOk result (Wrote (N.map names.now) (File key file ∷ before) self.new) }
+        ensures { (before : List Mark) → WriterState (N.map names.now) before self.old
+            → OnOk result (WriterState (N.map names.now) (File key file ∷ before) self.new) }
     {
         self.text.push(key.text())?;
         push_named(
@@ -167,8 +167,8 @@ impl Writer {
         file: FileId,
     ) -> Result<(), OutOfMemory>
         requires { IsFile (N.map names.now) file }
-        ensures { (before : List Mark) → Wrote (N.map names.now) before self.old
-            → OnOk result (Wrote (N.map names.now) (in_file key file before) self.new) }
+        ensures { (before : List Mark) → WriterState (N.map names.now) before self.old
+            → OnOk result (WriterState (N.map names.now) (in_file key file before) self.new) }
     {
         if self.is_in_file(file) {
             return Ok(());
@@ -201,8 +201,8 @@ impl Writer {
         function: ContextNo,
     ) -> Result<(), OutOfMemory>
         requires { IsFunc (N.map names.now) function }
-        ensures { (before : List Mark) → Wrote (N.map names.now) before self.old
-            → OnOk result (Wrote (N.map names.now) (Function function ∷ before) self.new) }
+        ensures { (before : List Mark) → WriterState (N.map names.now) before self.old
+            → OnOk result (WriterState (N.map names.now) (Function function ∷ before) self.new) }
     {
         self.text.push(b"fn=")?;
         push_named(
@@ -223,8 +223,8 @@ impl Writer {
         function: ContextNo,
     ) -> Result<(), OutOfMemory>
         requires { IsFunc (N.map names.now) function }
-        ensures { (before : List Mark) → Wrote (N.map names.now) before self.old
-            → OnOk result (Wrote (N.map names.now) (Callee function ∷ before) self.new) }
+        ensures { (before : List Mark) → WriterState (N.map names.now) before self.old
+            → OnOk result (WriterState (N.map names.now) (Callee function ∷ before) self.new) }
     {
         self.text.push(b"cfn=")?;
         push_named(
@@ -238,8 +238,8 @@ impl Writer {
 
     /// Writes how often the callee was called, and the line of its entry.
     pub(crate) fn put_calls(&mut self, calls: u64, line: u32) -> Result<(), OutOfMemory>
-        ensures { (m : SymbolMap) (before : List Mark) → Wrote m before self.old
-            → OnOk result (Wrote m (Calls calls line ∷ before) self.new) }
+        ensures { (m : SymbolMap) (before : List Mark) → WriterState m before self.old
+            → OnOk result (WriterState m (Calls calls line ∷ before) self.new) }
     {
         self.text.push(b"calls=")?;
         self.text.push_number(calls)?;
@@ -250,8 +250,8 @@ impl Writer {
 
     /// Writes a line number and its costs.
     pub(crate) fn put_costs(&mut self, line: u32, costs: &[u64]) -> Result<(), OutOfMemory>
-        ensures { (m : SymbolMap) (before : List Mark) → Wrote m before self.old
-            → OnOk result (Wrote m (Costs line costs.now ∷ before) self.new) }
+        ensures { (m : SymbolMap) (before : List Mark) → WriterState m before self.old
+            → OnOk result (WriterState m (Costs line costs.now ∷ before) self.new) }
     {
         self.text.push_number(u64::from(line))?;
         push_numbers(&mut self.text, costs)?;

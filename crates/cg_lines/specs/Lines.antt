@@ -17,13 +17,13 @@ abbrev pub without_front : (ℕ → Bool) → List ℕ → List ℕ
 without_front test bytes = drop (prefix_len test bytes) bytes
 
 -- without spaces and tabs at both ends
-abbrev pub trimmed : List ℕ → List ℕ
-trimmed bytes =
+abbrev pub trim : List ℕ → List ℕ
+trim bytes =
     let rest = without_front is_blank bytes in take (length rest - suffix_len is_blank rest) rest
 
 -- without a carriage return at the end, and then without spaces and tabs at both ends
-abbrev pub stripped : List ℕ → List ℕ
-stripped line = trimmed (strip_carriage_return line)
+abbrev pub strip : List ℕ → List ℕ
+strip line = trim (strip_carriage_return line)
 
 -- the parts between separators
 abbrev pub parts : ℕ → List ℕ → List (List ℕ)

@@ -8,15 +8,15 @@ use Rattle.cg_lines.specs.declared.number.Number.{Number}
 use Rattle.cg_lines.specs.declared.number.Number.TheVariants.{Fits, TooLarge}
 
 -- numbers have 64 bits
-abbrev pub limited : ℕ → Number
-limited n = if nat_lt n (2 ^ 64) then Fits n else TooLarge
+abbrev pub checked_number : ℕ → Number
+checked_number n = if nat_lt n (2 ^ 64) then Fits n else TooLarge
 
 -- one digit or more in this radix, and nothing else
 abbrev pub is_numeral : ℕ → List ℕ → Bool
 is_numeral radix digits = not (length digits == 0) && list_all (λ c. is_digit c radix) digits
 
 abbrev pub numeral : ℕ → List ℕ → Option Number
-numeral radix digits = if is_numeral radix digits then Some (limited (digits_value radix digits)) else None
+numeral radix digits = if is_numeral radix digits then Some (checked_number (digits_value radix digits)) else None
 
 -- a number is decimal digits, or 0x and hexadecimal digits
 abbrev pub number_of : List ℕ → Option Number

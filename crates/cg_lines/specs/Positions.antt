@@ -3,19 +3,19 @@ use Rattle.std.specs.Prelude.{ℕ, ◌+◌, ◌-◌, nat_lt, if◌then◌else◌
 use Rattle.cg_lines.specs.Names.{has_text, same_names}
 use Rattle.cg_lines.specs.Numbers.{in_range, value_of}
 use Rattle.cg_lines.specs.declared.number.Number.TheVariants.{Fits, TooLarge}
-use Rattle.cg_lines.specs.declared.place.Place.{Place}
-use Rattle.cg_lines.specs.declared.place.Place.TheVariants.{At, Ahead, Back, Same}
+use Rattle.cg_lines.specs.declared.sub_position.SubPosition.{SubPosition}
+use Rattle.cg_lines.specs.declared.sub_position.SubPosition.TheVariants.{At, Ahead, Back, Same}
 use Rattle.cg_lines.specs.declared.fault.Fault.{Fault}
 use Rattle.cg_lines.specs.declared.fault.Fault.TheVariants.{BadLine, Instr}
 
 -- the position that is meant, where relative ones count from base
-abbrev pub place_at : ℕ → Place → Option ℕ
-place_at base (At n) = value_of n
-place_at base (Ahead (Fits n)) = in_range (base + n)
-place_at base (Ahead TooLarge) = None
-place_at base (Back (Fits n)) = if nat_lt base n then None else Some (base - n)
-place_at base (Back TooLarge) = None
-place_at base Same = Some base
+abbrev pub position_at : ℕ → SubPosition → Option ℕ
+position_at base (At n) = value_of n
+position_at base (Ahead (Fits n)) = in_range (base + n)
+position_at base (Ahead TooLarge) = None
+position_at base (Back (Fits n)) = if nat_lt base n then None else Some (base - n)
+position_at base (Back TooLarge) = None
+position_at base Same = Some base
 
 -- the words that say that positions have two parts
 abbrev pub two_parts : List (List ℕ)

@@ -4,13 +4,13 @@ use Rattle.std.specs.Prelude.{drop, codes, Option, None, Some, option_map}
 use Rattle.std.specs.Char.{is_ascii_digit, is_ascii_alphabetic}
 use Rattle.std.specs.List.{prefix_len, take_while, before_first, after_first}
 use Rattle.std.specs.Str.{bytes_eq}
-use Rattle.cg_lines.specs.Lines.{is_space, without_front, trimmed, stripped, words}
+use Rattle.cg_lines.specs.Lines.{is_space, without_front, trim, strip, words}
 use Rattle.cg_lines.specs.Numbers.{number_of}
 use Rattle.cg_lines.specs.declared.number.Number.{Number}
-use Rattle.cg_lines.specs.declared.place.Place.{Place}
-use Rattle.cg_lines.specs.declared.place.Place.TheVariants.{At, Ahead, Back, Same}
+use Rattle.cg_lines.specs.declared.sub_position.SubPosition.{SubPosition}
+use Rattle.cg_lines.specs.declared.sub_position.SubPosition.TheVariants.{At, Ahead, Back, Same}
 use Rattle.cg_lines.specs.declared.name.Name.{Name}
-use Rattle.cg_lines.specs.declared.name.Name.TheVariants.{Plain, Known, Named}
+use Rattle.cg_lines.specs.declared.name.Name.TheVariants.{Plain, Id, Named}
 use Rattle.cg_lines.specs.declared.line.Field.{Field}
 use Rattle.cg_lines.specs.declared.line.Field.TheVariants as field
 use Rattle.cg_lines.specs.declared.line.Line.{Line}
@@ -20,9 +20,9 @@ use Rattle.cg_lines.specs.declared.line.Line.TheVariants.{Cost, BadCost, Jump, B
 
 -- Positions: a number, + or - and a number, or *
 
-abbrev pub place_of : List ℕ → Option Place
-place_of [] = None
-place_of (b ∷ rest) =
+abbrev pub sub_position_of : List ℕ → Option SubPosition
+sub_position_of [] = None
+sub_position_of (b ∷ rest) =
     if b == 42 then (if length rest == 0 then Some Same else None)
     else if b == 43 then option_map Ahead (number_of rest)
     else if b == 45 then option_map Back (number_of rest)
@@ -35,7 +35,7 @@ abbrev pub id_of : List ℕ → List ℕ
 id_of digits = without_front (λ b. b == 48) digits
 
 abbrev pub name_with_id : List ℕ → List ℕ → Name
-name_with_id id [] = Known id
+name_with_id id [] = Id id
 name_with_id id (b ∷ text) = Named id (b ∷ text)
 
 -- the name whose digits and whose rest, from the closing bracket on, are these
@@ -87,7 +87,7 @@ naming key [] = Bad
 naming key (b ∷ value) = field_line (field_of key) (name_of (b ∷ value))
 
 -- a number and a position
-abbrev pub calls_with : Option Number → Option Place → Line
+abbrev pub calls_with : Option Number → Option SubPosition → Line
 calls_with None place = BadCalls
 calls_with (Some n) None = BadCalls
 calls_with (Some n) (Some place) = Calls n place
@@ -95,7 +95,7 @@ calls_with (Some n) (Some place) = Calls n place
 abbrev pub calls_line : List (List ℕ) → Line
 calls_line [] = BadCalls
 calls_line (n ∷ []) = BadCalls
-calls_line (n ∷ place ∷ []) = calls_with (number_of n) (place_of place)
+calls_line (n ∷ place ∷ []) = calls_with (number_of n) (sub_position_of place)
 calls_line (n ∷ place ∷ more ∷ rest) = BadCalls
 
 abbrev pub assignment : List ℕ → List ℕ → Line
@@ -109,26 +109,26 @@ header key value =
     if length key == 0 then Bad
     else if bytes_eq key (codes "events") then Events value
     else if bytes_eq key (codes "positions") then Positions value
-    else if bytes_eq key (codes "cmd") then Command (trimmed value)
+    else if bytes_eq key (codes "cmd") then Command (trim value)
     else Header
 
 -- what letters and the rest of their line say
-abbrev pub keyed : List ℕ → List ℕ → Line
-keyed key [] = Bad
-keyed key (b ∷ value) = if b == 58 then header key value else if b == 61 then assignment key value else Bad
+abbrev pub key_line : List ℕ → List ℕ → Line
+key_line key [] = Bad
+key_line key (b ∷ value) = if b == 58 then header key value else if b == 61 then assignment key value else Bad
 
 -- Cost lines
 
 -- the first byte of a position
-abbrev pub begins_place : ℕ → Bool
-begins_place b = is_ascii_digit b || b == 42 || b == 43 || b == 45
+abbrev pub begins_position : ℕ → Bool
+begins_position b = is_ascii_digit b || b == 42 || b == 43 || b == 45
 
-abbrev pub cost_with : Option Place → List ℕ → Line
+abbrev pub cost_with : Option SubPosition → List ℕ → Line
 cost_with None costs = BadCost
 cost_with (Some place) costs = Cost place costs
 
 abbrev pub cost_line : List ℕ → Line
-cost_line text = cost_with (place_of (before_first is_space text)) (after_first is_space text)
+cost_line text = cost_with (sub_position_of (before_first is_space text)) (after_first is_space text)
 
 -- what a line says once its ends are stripped
 abbrev pub shape : List ℕ → Line
@@ -136,11 +136,11 @@ shape [] = Blank
 shape (b ∷ rest) =
     let text = b ∷ rest in
     if b == 35 then Blank
-    else if begins_place b then cost_line text
-    else keyed (take_while is_ascii_alphabetic text) (drop (prefix_len is_ascii_alphabetic text) text)
+    else if begins_position b then cost_line text
+    else key_line (take_while is_ascii_alphabetic text) (drop (prefix_len is_ascii_alphabetic text) text)
 
 abbrev pub line_of : List ℕ → Line
-line_of line = shape (stripped line)
+line_of line = shape (strip line)
 
 -- Kinds of lines
 

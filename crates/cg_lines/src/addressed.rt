@@ -2,14 +2,14 @@
 
 ghost use Rattle.std.specs.Prelude.{◌≡◌, ◌∷◌};
 ghost use Rattle.cg_lines.specs.Lines.{words};
-ghost use Rattle.cg_lines.specs.Addressed.{alone, placed, addressed_cost, addressed_calls, addressed_other};
+ghost use Rattle.cg_lines.specs.Addressed.{alone, with_address, addressed_cost, addressed_calls, addressed_other};
 ghost use Rattle.cg_lines.specs.Addressed.{addressed_shape, addressed_of, positions_line};
 
-use crate::front::{leading_spaces, stripped};
-use crate::line::{Line, begins_place, calls_after, cost_line, shape};
+use crate::front::{leading_spaces, strip};
+use crate::line::{Line, begins_position, calls_after, cost_line, shape};
 use crate::parts::{Words, split_word};
-use crate::place::{Place, place_of};
 use crate::positions::are_two_parts;
+use crate::sub_position::{SubPosition, sub_position_of};
 use byte_text::TextRef;
 
 /// What a line says by itself: what it says without the address in front of its position, and that address.
@@ -17,7 +17,7 @@ use byte_text::TextRef;
 pub struct AddressedLine<'a> {
     pub line: Line<'a>,
     /// `None` where the line has no position.
-    pub address: Option<Place>,
+    pub address: Option<SubPosition>,
 }
 
 /// A line that has no position.
@@ -31,8 +31,12 @@ fn alone(line: Line<'_>) -> AddressedLine<'_>
 }
 
 /// A line with this address in front of its position, or a bad one where there is no address.
-fn placed<'a>(address: Option<Place>, bad: Line<'a>, line: Line<'a>) -> AddressedLine<'a>
-    ensures { result ≡ placed address bad.entry line.entry }
+fn with_address<'a>(
+    address: Option<SubPosition>,
+    bad: Line<'a>,
+    line: Line<'a>,
+) -> AddressedLine<'a>
+    ensures { result ≡ with_address address bad.entry line.entry }
 {
     match address {
         None => alone(bad),
@@ -48,7 +52,7 @@ fn addressed_cost(text: &[u8]) -> AddressedLine<'_>
 {
     let (address, rest) = split_word(text);
     let (_, rest) = rest.split_at(leading_spaces(rest));
-    placed(place_of(address), Line::BadCost, cost_line(rest))
+    with_address(sub_position_of(address), Line::BadCost, cost_line(rest))
 }
 
 fn addressed_calls(value: &[u8]) -> AddressedLine<'_>
@@ -61,7 +65,11 @@ fn addressed_calls(value: &[u8]) -> AddressedLine<'_>
     let Some(address) = words.next() else {
         return alone(Line::BadCalls);
     };
-    placed(place_of(address), Line::BadCalls, calls_after(count, words))
+    with_address(
+        sub_position_of(address),
+        Line::BadCalls,
+        calls_after(count, words),
+    )
 }
 
 /// What a line on positions says without addresses.
@@ -90,7 +98,7 @@ fn addressed_shape(text: &[u8]) -> AddressedLine<'_>
     let Some(first) = text.first() else {
         return alone(Line::Blank);
     };
-    if begins_place(*first) {
+    if begins_position(*first) {
         addressed_cost(text)
     } else if text.starts_with(b"calls=") {
         addressed_calls(&text[6..])
@@ -103,5 +111,5 @@ fn addressed_shape(text: &[u8]) -> AddressedLine<'_>
 pub fn addressed_of(line: &[u8]) -> AddressedLine<'_>
     ensures { result ≡ addressed_of line.now }
 {
-    addressed_shape(stripped(line))
+    addressed_shape(strip(line))
 }

@@ -4,7 +4,7 @@ ghost use Rattle.std.specs.Prelude.{◌≡◌, ◌≤◌, ◌==◌, length};
 ghost use Rattle.std.specs.List.{prefix_len, suffix_len};
 ghost use Rattle.std.specs.Char.{is_ascii_digit, is_ascii_alphabetic};
 ghost use Rattle.std.specs.Str.Lines.{strip_carriage_return};
-ghost use Rattle.cg_lines.specs.Lines.{is_blank, is_space, trimmed, stripped};
+ghost use Rattle.cg_lines.specs.Lines.{is_blank, is_space, trim, strip};
 
 fn is_blank(byte: u8) -> bool
     ensures { result ≡ is_blank byte }
@@ -60,8 +60,8 @@ pub(crate) fn leading_letters(text: &[u8]) -> usize
 }
 
 /// Without spaces and tabs at both ends.
-pub(crate) fn trimmed(text: &[u8]) -> &[u8]
-    ensures { result.now ≡ trimmed text.now }
+pub(crate) fn trim(text: &[u8]) -> &[u8]
+    ensures { result.now ≡ trim text.now }
 {
     let (_, text) = text.split_at(leading_blanks(text));
     let (text, _) = text.split_at(text.len() - trailing_blanks(text));
@@ -78,8 +78,8 @@ fn without_carriage_return(line: &[u8]) -> &[u8]
 }
 
 /// Without a carriage return at the end, and then without spaces and tabs at both ends.
-pub(crate) fn stripped(line: &[u8]) -> &[u8]
-    ensures { result.now ≡ stripped line.now }
+pub(crate) fn strip(line: &[u8]) -> &[u8]
+    ensures { result.now ≡ strip line.now }
 {
-    trimmed(without_carriage_return(line))
+    trim(without_carriage_return(line))
 }

@@ -9,8 +9,8 @@ mod line;
 mod name;
 mod number;
 mod parts;
-mod place;
 mod positions;
+mod sub_position;
 
 pub use addressed::{AddressedLine, addressed_of};
 pub use events::{are_distinct, event_names};
@@ -19,5 +19,5 @@ pub use line::{Field, Line, line_of};
 pub use name::Name;
 pub use number::{Number, number_of};
 pub use parts::{Parts, Words};
-pub use place::{Place, place_at};
 pub use positions::{are_two_parts, positions_fault};
+pub use sub_position::{SubPosition, position_at};

@@ -3,15 +3,15 @@
 ghost use Rattle.std.specs.Prelude.{◌≡◌, ◌∷◌};
 ghost use Rattle.std.specs.Str.{bytes_eq};
 ghost use Rattle.cg_lines.specs.Shapes.{is_jump, is_file_key, field_of, field_line, naming, calls_line, assignment};
-ghost use Rattle.cg_lines.specs.Shapes.{header, keyed, begins_place, cost_line, shape, line_of};
+ghost use Rattle.cg_lines.specs.Shapes.{header, key_line, begins_position, cost_line, shape, line_of};
 ghost use Rattle.cg_lines.specs.Lines.{words};
 ghost use Rattle.cg_lines.specs.Shapes.{follows_call, is_blank_line, is_cost, is_positions};
 
-use crate::front::{leading_letters, stripped, trimmed};
+use crate::front::{leading_letters, strip, trim};
 use crate::name::{Name, name_of};
 use crate::number::{Number, number_of};
 use crate::parts::{Words, split_word};
-use crate::place::{Place, place_of};
+use crate::sub_position::{SubPosition, sub_position_of};
 use byte_text::TextRef;
 
 /// What a key with a name sets.
@@ -51,11 +51,11 @@ pub enum Line<'a> {
     /// `cfn=`.
     Callee(Name<'a>),
     /// `calls=` with how many calls, and the position that was called.
-    Calls(Number, Place),
+    Calls(Number, SubPosition),
     /// `calls=` with anything else.
     BadCalls,
     /// A position, and what follows it.
-    Cost(Place, TextRef<'a>),
+    Cost(SubPosition, TextRef<'a>),
     /// A line that begins like a position, and has none.
     BadCost,
     /// A line on jumps.
@@ -172,7 +172,7 @@ pub(crate) fn calls_after<'a>(count: &[u8], mut words: Words<'_>) -> Line<'a>
     if words.next().is_some() {
         return Line::BadCalls;
     }
-    match (number_of(count), place_of(place)) {
+    match (number_of(count), sub_position_of(place)) {
         (Some(count), Some(place)) => Line::Calls(count, place),
         _ => Line::BadCalls,
     }
@@ -210,14 +210,14 @@ fn header<'a>(key: &[u8], value: &'a [u8]) -> Line<'a>
     } else if is(key, "positions") {
         Line::Positions(TextRef::new(value))
     } else if is(key, "cmd") {
-        Line::Command(TextRef::new(trimmed(value)))
+        Line::Command(TextRef::new(trim(value)))
     } else {
         Line::Header
     }
 }
 
-fn keyed<'a>(key: &[u8], rest: &'a [u8]) -> Line<'a>
-    ensures { result ≡ keyed key.now rest.now }
+fn key_line<'a>(key: &[u8], rest: &'a [u8]) -> Line<'a>
+    ensures { result ≡ key_line key.now rest.now }
 {
     match rest {
         [b':', value @ ..] => header(key, value),
@@ -226,8 +226,8 @@ fn keyed<'a>(key: &[u8], rest: &'a [u8]) -> Line<'a>
     }
 }
 
-pub(crate) fn begins_place(byte: u8) -> bool
-    ensures { result ≡ begins_place byte }
+pub(crate) fn begins_position(byte: u8) -> bool
+    ensures { result ≡ begins_position byte }
 {
     byte.is_ascii_digit() || byte == b'*' || byte == b'+' || byte == b'-'
 }
@@ -236,7 +236,7 @@ pub(crate) fn cost_line(text: &[u8]) -> Line<'_>
     ensures { result ≡ cost_line text.now }
 {
     let (word, costs) = split_word(text);
-    match place_of(word) {
+    match sub_position_of(word) {
         Some(place) => Line::Cost(place, TextRef::new(costs)),
         None => Line::BadCost,
     }
@@ -250,11 +250,11 @@ pub(crate) fn shape(text: &[u8]) -> Line<'_>
     };
     if *first == b'#' {
         Line::Blank
-    } else if begins_place(*first) {
+    } else if begins_position(*first) {
         cost_line(text)
     } else {
         let (key, rest) = text.split_at(leading_letters(text));
-        keyed(key, rest)
+        key_line(key, rest)
     }
 }
 
@@ -262,5 +262,5 @@ pub(crate) fn shape(text: &[u8]) -> Line<'_>
 pub fn line_of(line: &[u8]) -> Line<'_>
     ensures { result ≡ line_of line.now }
 {
-    shape(stripped(line))
+    shape(strip(line))
 }

@@ -12,7 +12,7 @@ pub enum Name<'a> {
     /// A text.
     Plain(TextRef<'a>),
     /// `(ID)`: the text that the id stands for.
-    Known(TextRef<'a>),
+    Id(TextRef<'a>),
     /// `(ID) TEXT`: the text, for which the id stands from here on.
     Named(TextRef<'a>, TextRef<'a>),
 }
@@ -34,7 +34,7 @@ pub(crate) fn name_of(value: &[u8]) -> Name<'_>
     let (_, id) = digits.split_at(leading_zeros(digits));
     let (_, text) = text.split_at(leading_spaces(text));
     if text.is_empty() {
-        Name::Known(TextRef::new(id))
+        Name::Id(TextRef::new(id))
     } else {
         Name::Named(TextRef::new(id), TextRef::new(text))
     }

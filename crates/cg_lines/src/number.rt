@@ -2,7 +2,7 @@
 
 ghost use Rattle.std.specs.Prelude.{◌≡◌, ℕ, ◌+◌, ◌*◌, ◌<◌, ◌≤◌};
 ghost use Rattle.std.specs.Char.{digit_value};
-ghost use Rattle.cg_lines.specs.Numbers.{limited, numeral, number_of};
+ghost use Rattle.cg_lines.specs.Numbers.{checked_number, numeral, number_of};
 
 /// What a number in the text stands for.
 #[derive(Clone, Copy, Debug)]
@@ -28,7 +28,7 @@ fn digit_value(byte: u8) -> u8
 /// The number with one more digit.
 fn with_digit(number: Number, radix: u8, digit: u8) -> Number
     requires { 1 ≤ radix }
-    ensures { (n : ℕ) → number ≡ limited n → result ≡ limited (n * radix + digit) }
+    ensures { (n : ℕ) → number ≡ checked_number n → result ≡ checked_number (n * radix + digit) }
 {
     let Number::Fits(value) = number else {
         return Number::TooLarge;

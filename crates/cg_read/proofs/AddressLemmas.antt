@@ -12,7 +12,7 @@ use Rattle.cg_read.specs.Faults.{Answers, error_at}
 use Rattle.cg_read.specs.Reading as reading
 use Rattle.cg_read.specs.Reading.{end_fault, last_line}
 use Rattle.cg_lines.specs.Addressed.{addressed_of}
-use Rattle.cg_read.specs.Addresses.{address_if, bare, fault as fault_of}
+use Rattle.cg_read.specs.Addresses.{address_if, without_addresses, fault as fault_of}
 use Rattle.cg_lines.specs.Shapes.{is_cost}
 use Rattle.cg_read.specs.Addresses.{self_addresses, call_addresses}
 use Rattle.cg_read.specs.AddressReading.{AddrContents, Says, SaysTheSame, Reads, history, history_of}
@@ -43,19 +43,19 @@ pub refused_line : (bytes : List ℕ) (seen : List (List ℕ)) (text : List ℕ)
 refused_line bytes seen text rest number f split sound count h =
     histories.refused_line addressed_of fault_of (lines bytes) seen text rest number f _ split sound count h
 
-pub last_more : (texts : List (List ℕ)) (text : List ℕ) (last number : ℕ) → last ≡ last_line (bare (history_of texts))
+pub last_more : (texts : List (List ℕ)) (text : List ℕ) (last number : ℕ) → last ≡ last_line (without_addresses (history_of texts))
     → number ≡ length texts + 1
     → (if is_blank_line (addressed_of text).line then last else number)
-    ≡ last_line ((addressed_of text).line ∷ bare (history_of texts))
+    ≡ last_line ((addressed_of text).line ∷ without_addresses (history_of texts))
 last_more texts text last number same count =
-    let long : length (bare (history_of texts)) ≡ length texts =
+    let long : length (without_addresses (history_of texts)) ≡ length texts =
     length-map (history_of texts) (λ (a : AddressedLine). a.line) ∙ histories.length-history_by addressed_of texts in
     rw (same, count, ← long) refl
 
 -- the end of a file whose lines are sound
 pub at_end : (r : Result AddrContents FormatError) (bytes : List ℕ) → bad_line (history bytes) ≡ None
-    → MatchResult r (λ p. Says (history bytes) p × (end_fault (bare (history bytes)) ≡ None))
-    (λ e. Answers e (end_fault (bare (history bytes))))
+    → MatchResult r (λ p. Says (history bytes) p × (end_fault (without_addresses (history bytes)) ≡ None))
+    (λ e. Answers e (end_fault (without_addresses (history bytes))))
     → MatchResult r (λ p. (first_bad bytes ≡ None) × Says (history bytes) p) (λ e. Answers e (first_bad bytes))
 at_end (Ok p) bytes sound h = (rw sound h.1, h.0)
 at_end (Err e) bytes sound h = rw sound h
@@ -65,7 +65,7 @@ at_end (Err e) bytes sound h = rw sound h
 pub says_the_same : (before : List AddressedLine) (p q : AddrContents) → Says before p → Says before q
     → SaysTheSame p q
 says_the_same before p q x y = record {
-  lines = plain.says_the_same (bare before) p.lines q.lines x.lines y.lines;
+  lines = plain.says_the_same (without_addresses before) p.lines q.lines x.lines y.lines;
   self_addresses = x.self_addresses ∙ sym y.self_addresses;
   call_addresses = x.call_addresses ∙ sym y.call_addresses;
 }
@@ -104,14 +104,14 @@ call_more (Cost place costs) before ns n h =
 call_more _ before ns n h = rw append-nil h
 
 pub self_addressed : (before : List AddressedLine)
-    → length (self_addresses before) ≡ length (self_rows (bare before))
+    → length (self_addresses before) ≡ length (self_rows (without_addresses before))
 self_addressed [] = refl
-self_addressed (a ∷ before) = self_more a.line (bare before) (self_addresses before) _ (self_addressed before)
+self_addressed (a ∷ before) = self_more a.line (without_addresses before) (self_addresses before) _ (self_addressed before)
 
 pub call_addressed : (before : List AddressedLine)
-    → length (call_addresses before) ≡ length (call_rows (bare before))
+    → length (call_addresses before) ≡ length (call_rows (without_addresses before))
 call_addressed [] = refl
-call_addressed (a ∷ before) = call_more a.line (bare before) (call_addresses before) _ (call_addressed before)
+call_addressed (a ∷ before) = call_more a.line (without_addresses before) (call_addresses before) _ (call_addressed before)
 
 -- a profile has as many self rows as its lines say
 pub self_count : (before : List Line) (p : Contents) → reading.Says before p

@@ -10,7 +10,7 @@ use Rattle.std.proofs.lemmas.Option.{get_or_from_slice_get, slice_get_within}
 use Rattle.std.proofs.lemmas.List.Folds.{list_any-append}
 use Rattle.std.proofs.lemmas.Slice.Eq.{bytes_eq-Decides}
 use Rattle.cg_read.specs.inner.Same.{both_true}
-use Rattle.key_tables.specs.Keys.{added}
+use Rattle.key_tables.specs.Keys.{with_key}
 use Rattle.cg_read.specs.Profiles.{FitsSelf, FitsCall, NamedSelf, NamedCall, named_self, named_call, has_function}
 use Rattle.cg_read.specs.Profiles.{has_text, functions_of, files_of, same_function, unknown, unknown_function}
 use Rattle.cg_read.specs.inner.Drafts.{StandFor}
@@ -56,8 +56,8 @@ texts_are x y = (bytes_eq-Decides x y).0
 abbrev pub fresh : {K : Type 0} → (K → K → Bool) → List K → K → List K
 fresh same xs x = cond (list_any (same x) xs) [] (x ∷ [])
 
-pub added-grows : {K : Type 0} (same : K → K → Bool) (xs : List K) (x : K) → added same xs x ≡ xs ++ fresh same xs x
-added-grows same xs x =
+pub with_key-grows : {K : Type 0} (same : K → K → Bool) (xs : List K) (x : K) → with_key same xs x ≡ xs ++ fresh same xs x
+with_key-grows same xs x =
     let go : (b : Bool) → cond b xs (xs ++ x ∷ []) ≡ xs ++ cond b [] (x ∷ [])
     = elim [ true ↦ sym (append-nil xs) | false ↦ refl ]
     in go (list_any (same x) xs)

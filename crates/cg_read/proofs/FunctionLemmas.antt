@@ -8,11 +8,11 @@ use Rattle.std.proofs.lemmas.Bool.Decides.{Decides-eqb}
 use Rattle.std.proofs.lemmas.List.{get_or-map, length-map, map-append, take-append-le}
 use Rattle.std.proofs.lemmas.List.Elements.{All-filter}
 use Rattle.std.proofs.lemmas.Slice.Eq.{bytes_eq-Decides}
-use Rattle.key_tables.specs.Known.{Knows}
+use Rattle.key_tables.specs.Indexes.{Knows}
 use Rattle.key_tables.specs.declared.index.Index.{Index}
 use Rattle.cg_read.specs.Merge.{missing}
 use Rattle.cg_read.specs.Profiles.{AreApart, same_function}
-use Rattle.cg_read.specs.inner.Gains.{NumberEach, renumbered}
+use Rattle.cg_read.specs.inner.Gains.{NumberEach, renumber}
 use Rattle.cg_read.specs.inner.Texts.{AreOfTexts, IsOfTexts, Keeps, function_in, numbers_eq, text_in}
 use Rattle.cg_read.proofs.JoinLemmas.{at_number, each_append, each_from, length_numbers}
 use Rattle.cg_read.proofs.NumberLemmas.{at_seen}
@@ -78,8 +78,8 @@ known_numbers table texts numbers fs at known = rw (length_numbers table numbers
 
 moved_seen : (table texts : List (List ℕ)) (numbers : List ℕ) → NumberEach table numbers texts
     → (fs : List FunctionNumbers) → AllByRecursion (IsOfTexts (length texts)) fs
-    → (map (function_in table) (map (renumbered numbers) fs) ≡ map (function_in texts) fs)
-    × AllByRecursion (IsOfTexts (length table)) (map (renumbered numbers) fs)
+    → (map (function_in table) (map (renumber numbers) fs) ≡ map (function_in texts) fs)
+    × AllByRecursion (IsOfTexts (length table)) (map (renumber numbers) fs)
 moved_seen table texts numbers at [] h = (refl, tt)
 moved_seen table texts numbers at (f ∷ fs) h =
     let object = at_number table numbers texts [] f.object at h.0.object in
@@ -104,28 +104,28 @@ module _ (own others table : List (List ℕ)) (xs ys : List FunctionNumbers) (nu
   pub own_apart : AreApart xs
   own_apart = seen_apart (function_in own) xs apart_x
 
-  pub others_apart : AreApart (map (renumbered numbers) ys)
+  pub others_apart : AreApart (map (renumber numbers) ys)
   others_apart =
-      let moved = moved_seen table others numbers at ys (each_from (IsOfTexts (length others)) ys holds_y.known) in
-      seen_apart (function_in table) (map (renumbered numbers) ys) (rw moved.0 apart_y)
+      let moved = moved_seen table others numbers at ys (each_from (IsOfTexts (length others)) ys holds_y.of_texts) in
+      seen_apart (function_in table) (map (renumber numbers) ys) (rw moved.0 apart_y)
 
 -- functions and behind them those that they gain, once the texts that they gain stand behind theirs
 module _ (own others table : List (List ℕ)) (xs ys more : List FunctionNumbers) (numbers : List ℕ)
     (holds_x : AreOfTexts own xs) (holds_y : AreOfTexts others ys) (keeps : Keeps own table)
     (at : NumberEach table numbers others) (apart : AreApart table)
-    (is_more : more ≡ missing numbers_eq xs (map (renumbered numbers) ys)) where
+    (is_more : more ≡ missing numbers_eq xs (map (renumber numbers) ys)) where
   own_seen : (map (function_in table) xs ≡ map (function_in own) xs) × AllByRecursion (IsOfTexts (length table)) xs
-  own_seen = functions_kept own table keeps xs (each_from (IsOfTexts (length own)) xs holds_x.known)
+  own_seen = functions_kept own table keeps xs (each_from (IsOfTexts (length own)) xs holds_x.of_texts)
 
-  others_seen : (map (function_in table) (map (renumbered numbers) ys) ≡ map (function_in others) ys)
-      × AllByRecursion (IsOfTexts (length table)) (map (renumbered numbers) ys)
-  others_seen = moved_seen table others numbers at ys (each_from (IsOfTexts (length others)) ys holds_y.known)
+  others_seen : (map (function_in table) (map (renumber numbers) ys) ≡ map (function_in others) ys)
+      × AllByRecursion (IsOfTexts (length table)) (map (renumber numbers) ys)
+  others_seen = moved_seen table others numbers at ys (each_from (IsOfTexts (length others)) ys holds_y.of_texts)
 
   more_known : All (IsOfTexts (length table)) more
   more_known =
       rw is_more
-      (All-filter (λ y. not (list_any (numbers_eq y) xs)) (IsOfTexts (length table)) (map (renumbered numbers) ys)
-      (each_at (IsOfTexts (length table)) (map (renumbered numbers) ys) others_seen.1))
+      (All-filter (λ y. not (list_any (numbers_eq y) xs)) (IsOfTexts (length table)) (map (renumber numbers) ys)
+      (each_at (IsOfTexts (length table)) (map (renumber numbers) ys) others_seen.1))
 
   pub keys_known : All (IsOfTexts (length table)) (xs ++ more)
   keys_known =
@@ -139,16 +139,16 @@ module _ (own others table : List (List ℕ)) (xs ys more : List FunctionNumbers
       map-append (function_in table) xs more
       ∙ ap (λ (l : List FunctionNumbers). map (function_in table) xs ++ map (function_in table) l) is_more
       ∙ ap (λ (l : List FuncKey). map (function_in table) xs ++ l)
-      (seen-missing table apart xs (map (renumbered numbers) ys) own_seen.1 others_seen.1)
-      ∙ ap (λ (l : List FuncKey). l ++ missing same_function l (map (function_in table) (map (renumbered numbers) ys)))
+      (seen-missing table apart xs (map (renumber numbers) ys) own_seen.1 others_seen.1)
+      ∙ ap (λ (l : List FuncKey). l ++ missing same_function l (map (function_in table) (map (renumber numbers) ys)))
       own_seen.0
       ∙ ap (λ (l : List FuncKey). map (function_in own) xs ++ missing same_function (map (function_in own) xs) l)
       others_seen.0
 
-  pub functions_numbered : (ns : List ℕ) → NumberEach (xs ++ more) ns (map (renumbered numbers) ys)
+  pub functions_numbered : (ns : List ℕ) → NumberEach (xs ++ more) ns (map (renumber numbers) ys)
       → NumberEach (map (function_in table) (xs ++ more)) ns (map (function_in others) ys)
   functions_numbered ns h =
-      rw (← others_seen.0) (number_seen (function_in table) (xs ++ more) ns (map (renumbered numbers) ys) h)
+      rw (← others_seen.0) (number_seen (function_in table) (xs ++ more) ns (map (renumber numbers) ys) h)
 
   pub functions_apart : AreApart (xs ++ more) → AreApart (map (function_in table) (xs ++ more))
   functions_apart apart_k = apart_numbered table (xs ++ more) apart apart_k keys_known
@@ -158,5 +158,5 @@ pub knows_more : {K : Type 0} (cmp : K → K → Ordering) (keys more : List K) 
     → Knows cmp (keys ++ more) index
 knows_more cmp keys more index h = record {
   within = omega (arith, h.within, length-append keys more);
-  found = rw (take-append-le index.known keys more h.within) h.found;
+  found = rw (take-append-le index.count keys more h.within) h.found;
 }

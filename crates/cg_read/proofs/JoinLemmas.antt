@@ -144,7 +144,7 @@ grown_has p q new more holds apart h =
       profile = h.profile;
     }
 
-pub gained : (p q : Contents) (command : Option (List ℕ)) (mt : List (List ℕ)) (nf nt : List ℕ)
+pub gain_has_rows : (p q : Contents) (command : Option (List ℕ)) (mt : List (List ℕ)) (nf nt : List ℕ)
     → IsProfile p → IsProfile q → length q.events ≤ length p.events
     → mt ≡ missing bytes_eq p.files q.files → NumberEach p.functions nf q.functions
     → NumberEach (p.files ++ mt) nt q.files → AreApart (p.files ++ mt)
@@ -152,7 +152,7 @@ pub gained : (p q : Contents) (command : Option (List ℕ)) (mt : List (List ℕ
     → HasRows p.functions p q
     (with_gain p command mt (map (renumbered_self (length p.events) nf nt) q.self_rows)
     (map (renumbered_call (length p.events) nf nt) q.call_rows))
-gained p q command mt nf nt holds_p holds_q few is_t at_f at_t apart_t same_command =
+gain_has_rows p q command mt nf nt holds_p holds_q few is_t at_f at_t apart_t same_command =
     let m : ℕ = length q.events in
     let n : ℕ = length p.events in
     let fs : List FuncKey = p.functions in

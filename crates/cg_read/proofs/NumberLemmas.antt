@@ -8,10 +8,10 @@ use Rattle.std.proofs.lemmas.List.Folds.{list_any-append}
 use Rattle.std.proofs.lemmas.Option.{get_or_from_slice_get, slice_get_within, slice_get-map}
 use Rattle.cg_read.specs.inner.Drafts.{StandForNumbered}
 use Rattle.cg_read.specs.inner.Same.{same_numbers, same_function_numbers}
-use Rattle.key_tables.specs.Keys.{added}
+use Rattle.key_tables.specs.Keys.{with_key}
 use Rattle.cg_read.specs.inner.Texts.{Names, IsOfTexts, function_in, numbers_eq, text_in}
 use Rattle.cg_read.specs.Profiles.{NamedSelf, NamedCall, has_function, has_text, same_function}
-use Rattle.cg_read.proofs.DraftLemmas.{added-grows, fresh, or-false, or_assoc, each_push, StandFor-self, StandFor-call}
+use Rattle.cg_read.proofs.DraftLemmas.{with_key-grows, fresh, or-false, or_assoc, each_push, StandFor-self, StandFor-call}
 use Rattle.cg_read.proofs.TextLemmas.{slice_get_kept}
 use Rattle.cg_read.specs.declared.rows.FuncKey.{FuncKey}
 use Rattle.cg_read.specs.declared.rows.SelfRow.{SelfRow}
@@ -43,9 +43,9 @@ module _ {K V : Type 0} (same : K → K → Bool) (exact : (x y : K) → same x 
       ]
       in go (same x y) refl h
 
-  any-added-seen : (xs : List K) (x : K)
-      → list_any test (map see (added same xs x)) ≡ (list_any test (map see xs) || test (see x))
-  any-added-seen xs x = go (list_any (same x) xs) refl
+  any-with_key-seen : (xs : List K) (x : K)
+      → list_any test (map see (with_key same xs x)) ≡ (list_any test (map see xs) || test (see x))
+  any-with_key-seen xs x = go (list_any (same x) xs) refl
     where
       go : (b : Bool) → list_any (same x) xs ≡ b
           → list_any test (map see (cond b xs (xs ++ x ∷ []))) ≡ (list_any test (map see xs) || test (see x))
@@ -55,7 +55,7 @@ module _ {K V : Type 0} (same : K → K → Bool) (exact : (x y : K) → same x 
           ∙ ap (λ b. list_any test (map see xs) || b) (or-false (test (see x)))
 
 pub each_added : {K : Type 0} (P : K → Type 0) (same : K → K → Bool) (xs : List K) (x : K) → AllByRecursion P xs → P x
-    → AllByRecursion P (added same xs x)
+    → AllByRecursion P (with_key same xs x)
 each_added P same xs x h p =
     let go : (b : Bool) → AllByRecursion P (cond b xs (xs ++ x ∷ []))
     = elim [ true ↦ h | false ↦ each_push P xs x h p ]
@@ -85,7 +85,7 @@ at_seen see xs n x v at is = slice_get-map see xs n ∙ ap (option_map see) at �
 pub draft_self : (texts : List (List ℕ)) (n : ℕ) (names names' : List FunctionNumbers) (ts ts' : List ℕ)
     (rows rows' : List SelfRow) (arcs : List CallRow) (selfs : List NamedSelf) (calls : List NamedCall)
     (x : FunctionNumbers) (t : ℕ) (f : FuncKey) (text : List ℕ) (row : SelfRow)
-    → names' ≡ added numbers_eq names x → slice_get names' row.func ≡ Some x → ts' ≡ added number_eq ts t
+    → names' ≡ with_key numbers_eq names x → slice_get names' row.func ≡ Some x → ts' ≡ with_key number_eq ts t
     → slice_get ts' row.file ≡ Some t → rows' ≡ rows ++ row ∷ []
     → StandForNumbered texts n names ts rows arcs selfs calls → length row.cost ≡ n → Names texts x f
     → slice_get texts t ≡ Some text
@@ -97,9 +97,9 @@ draft_self texts n names names' ts ts' rows rows' arcs selfs calls x t f text ro
     let read : ℕ → List ℕ = text_in texts in
     let more : List FunctionNumbers = fresh numbers_eq names x in
     let others : List ℕ = fresh number_eq ts t in
-    let fs : map see names' ≡ map see names ++ map see more = ap (map see) (e_x ∙ added-grows numbers_eq names x)
+    let fs : map see names' ≡ map see names ++ map see more = ap (map see) (e_x ∙ with_key-grows numbers_eq names x)
     ∙ map-append see names more in
-    let files : map read ts' ≡ map read ts ++ map read others = ap (map read) (e_t ∙ added-grows number_eq ts t)
+    let files : map read ts' ≡ map read ts ++ map read others = ap (map read) (e_t ∙ with_key-grows number_eq ts t)
     ∙ map-append read ts others in
     let x_is : see x ≡ f = function_is texts x f is in
     let t_is : read t ≡ text = get_or_from_slice_get texts t text [] there in
@@ -117,10 +117,10 @@ draft_self texts n names names' ts ts' rows rows' arcs selfs calls x t f text ro
           (map read others) rows arcs selfs calls f text row
           was.stands
           (λ q. ap (λ (l : List FuncKey). has_function l q) (sym fs ∙ ap (map see) e_x)
-          ∙ any-added-seen numbers_eq same_function_numbers see (same_function q) names x
+          ∙ any-with_key-seen numbers_eq same_function_numbers see (same_function q) names x
           ∙ ap (λ (g : FuncKey). has_function (map see names) q || same_function q g) x_is)
           (λ q. ap (λ (l : List (List ℕ)). has_text l q) (sym files ∙ ap (map read) e_t)
-          ∙ any-added-seen number_eq same_numbers read (bytes_eq q) ts t
+          ∙ any-with_key-seen number_eq same_numbers read (bytes_eq q) ts t
           ∙ ap (λ (g : List ℕ). has_text (map read ts) q || bytes_eq q g) t_is)
           (ap (λ (l : List FuncKey). slice_get l row.func) (sym fs) ∙ at_seen see names' row.func x f at_x x_is)
           (ap (λ (l : List (List ℕ)). slice_get l row.file) (sym files) ∙ at_seen read ts' row.file t text at_t t_is)
@@ -130,8 +130,8 @@ draft_self texts n names names' ts ts' rows rows' arcs selfs calls x t f text ro
 pub draft_call : (texts : List (List ℕ)) (n : ℕ) (names names₁ names' : List FunctionNumbers) (ts ts' : List ℕ)
     (rows : List SelfRow) (arcs arcs' : List CallRow) (selfs : List NamedSelf) (calls : List NamedCall)
     (x y : FunctionNumbers) (t : ℕ) (f g : FuncKey) (text : List ℕ) (row : CallRow)
-    → names₁ ≡ added numbers_eq names x → slice_get names₁ row.caller ≡ Some x → names' ≡ added numbers_eq names₁ y
-    → slice_get names' row.callee ≡ Some y → ts' ≡ added number_eq ts t → slice_get ts' row.file ≡ Some t
+    → names₁ ≡ with_key numbers_eq names x → slice_get names₁ row.caller ≡ Some x → names' ≡ with_key numbers_eq names₁ y
+    → slice_get names' row.callee ≡ Some y → ts' ≡ with_key number_eq ts t → slice_get ts' row.file ≡ Some t
     → arcs' ≡ arcs ++ row ∷ []
     → StandForNumbered texts n names ts rows arcs selfs calls → length row.cost ≡ n → Names texts x f → Names texts y g
     → slice_get texts t ≡ Some text
@@ -145,24 +145,24 @@ draft_call texts n names names₁ names' ts ts' rows arcs arcs' selfs calls x y 
     let first : List FunctionNumbers = fresh numbers_eq names x in
     let second : List FunctionNumbers = fresh numbers_eq names₁ y in
     let others : List ℕ = fresh number_eq ts t in
-    let grown : names' ≡ names ++ (first ++ second) = e_y ∙ added-grows numbers_eq names₁ y
-    ∙ ap (λ (l : List FunctionNumbers). l ++ second) (e_x ∙ added-grows numbers_eq names x)
+    let grown : names' ≡ names ++ (first ++ second) = e_y ∙ with_key-grows numbers_eq names₁ y
+    ∙ ap (λ (l : List FunctionNumbers). l ++ second) (e_x ∙ with_key-grows numbers_eq names x)
     ∙ append_assoc names first second in
     let fs : map see names' ≡ map see names ++ map see (first ++ second) = ap (map see) grown
     ∙ map-append see names (first ++ second) in
-    let files : map read ts' ≡ map read ts ++ map read others = ap (map read) (e_t ∙ added-grows number_eq ts t)
+    let files : map read ts' ≡ map read ts ++ map read others = ap (map read) (e_t ∙ with_key-grows number_eq ts t)
     ∙ map-append read ts others in
     let x_is : see x ≡ f = function_is texts x f is_f in
     let y_is : see y ≡ g = function_is texts y g is_g in
     let t_is : read t ≡ text = get_or_from_slice_get texts t text [] there in
     let at_x' : slice_get names' row.caller ≡ Some x
-    = ap (λ (l : List FunctionNumbers). slice_get l row.caller) (e_y ∙ added-grows numbers_eq names₁ y)
+    = ap (λ (l : List FunctionNumbers). slice_get l row.caller) (e_y ∙ with_key-grows numbers_eq names₁ y)
     ∙ slice_get_kept names₁ second row.caller x at_x in
     let known₁ : AllByRecursion (IsOfTexts (length texts)) names₁ =
     rw e_x (each_added (IsOfTexts (length texts)) numbers_eq names x was.functions_known (of_texts texts x f is_f)) in
     let has₁ : (q : FuncKey) → has_function (map see names₁) q ≡ (has_function (map see names) q || same_function q f)
     = λ q. ap (λ (l : List FunctionNumbers). has_function (map see l) q) e_x
-    ∙ any-added-seen numbers_eq same_function_numbers see (same_function q) names x
+    ∙ any-with_key-seen numbers_eq same_function_numbers see (same_function q) names x
     ∙ ap (λ (h : FuncKey). has_function (map see names) q || same_function q h) x_is in
     record {
       functions_known =
@@ -176,11 +176,11 @@ draft_call texts n names names₁ names' ts ts' rows arcs arcs' selfs calls x y 
           (StandFor-call n (map see names) (map see (first ++ second)) (map read ts) (map read others) rows arcs selfs
           calls f g text row was.stands
           (λ q. ap (λ (l : List FuncKey). has_function l q) (sym fs ∙ ap (map see) e_y)
-          ∙ any-added-seen numbers_eq same_function_numbers see (same_function q) names₁ y
+          ∙ any-with_key-seen numbers_eq same_function_numbers see (same_function q) names₁ y
           ∙ ap (λ (h : FuncKey). has_function (map see names₁) q || same_function q h) y_is
           ∙ ap (λ b. b || same_function q g) (has₁ q))
           (λ q. ap (λ (l : List (List ℕ)). has_text l q) (sym files ∙ ap (map read) e_t)
-          ∙ any-added-seen number_eq same_numbers read (bytes_eq q) ts t
+          ∙ any-with_key-seen number_eq same_numbers read (bytes_eq q) ts t
           ∙ ap (λ (h : List ℕ). has_text (map read ts) q || bytes_eq q h) t_is)
           (ap (λ (l : List FuncKey). slice_get l row.caller) (sym fs) ∙ at_seen see names' row.caller x f at_x' x_is)
           (ap (λ (l : List FuncKey). slice_get l row.callee) (sym fs) ∙ at_seen see names' row.callee y g at_y y_is)

@@ -13,7 +13,7 @@ use Rattle.cg_read.specs.Faults.{error_at}
 use Rattle.cg_read.specs.Profiles.{Contents, has_text}
 use Rattle.cg_read.specs.Reading as reading
 use Rattle.cg_read.specs.Reading.{end_fault, first_fault}
-use Rattle.cg_read.specs.Addresses.{address_fault, bare, base, fault as fault_of, is_early, order_fault}
+use Rattle.cg_read.specs.Addresses.{address_fault, without_addresses, base, fault as fault_of, is_early, order_fault}
 use Rattle.cg_lines.specs.Positions.{two_parts}
 use Rattle.cg_read.specs.AddressReading.{ReadsLines, are_two_parts, bad_line, first_bad, first_bad_of, first_positions}
 use Rattle.cg_read.specs.AddressReading.{history, is_addr_file, lines_said, positions_in}
@@ -47,26 +47,26 @@ sound_parts says before line sound =
 
 -- lines that have no fault with their addresses have none without them
 bare_fault : (before : List AddressedLine) (a : AddressedLine) → fault_of before a ≡ None
-    → meaning.fault (bare before) a.line ≡ None
+    → meaning.fault (without_addresses before) a.line ≡ None
 bare_fault before a none =
     let rest = neither (order_fault (is_early before a))
-    (or_else (meaning.fault (bare before) a.line) (address_fault (base before) a.address)) none in
-    (neither (meaning.fault (bare before) a.line) (address_fault (base before) a.address) rest.1).0
+    (or_else (meaning.fault (without_addresses before) a.line) (address_fault (base before) a.address)) none in
+    (neither (meaning.fault (without_addresses before) a.line) (address_fault (base before) a.address) rest.1).0
 
-bare_sound : (before : List AddressedLine) → bad_line before ≡ None → reading.bad_line (bare before) ≡ None
+bare_sound : (before : List AddressedLine) → bad_line before ≡ None → reading.bad_line (without_addresses before) ≡ None
 bare_sound [] sound = refl
 bare_sound (a ∷ before) sound =
     let parts = sound_parts fault_of before a sound in
-    sound_more (bare before) a.line (bare_sound before parts.0) (bare_fault before a parts.1)
+    sound_more (without_addresses before) a.line (bare_sound before parts.0) (bare_fault before a parts.1)
 
 -- where a file has no bad line, its lines have no fault without addresses
 pub lines_sound : (bytes : List ℕ) → first_bad_of bytes ≡ None → reading.bad_line (lines_said bytes) ≡ None
 lines_sound bytes sound = go (is_addr_file bytes) sound
   where
     go : (b : Bool) → (if b then first_bad bytes else reading.first_bad bytes) ≡ None
-        → reading.bad_line (if b then bare (history bytes) else reading.history bytes) ≡ None
+        → reading.bad_line (if b then without_addresses (history bytes) else reading.history bytes) ≡ None
     go true none =
-        bare_sound (history bytes) (neither (bad_line (history bytes)) (end_fault (bare (history bytes))) none).0
+        bare_sound (history bytes) (neither (bad_line (history bytes)) (end_fault (without_addresses (history bytes))) none).0
     go false none =
         (neither (reading.bad_line (reading.history bytes)) (end_fault (reading.history bytes)) none).0
 

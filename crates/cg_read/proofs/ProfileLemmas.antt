@@ -83,13 +83,13 @@ apart_files texts ts apart_t apart known = λ i j d lt le same.
     (number_is texts (get_or ts i 0) (get_or ts j 0) apart_t (known i 0 lt_i) (known j 0 lt_j)
     (sym (get_or-map (text_in texts) ts i 0 d lt_i) ∙ same ∙ get_or-map (text_in texts) ts j 0 d lt_j))
 
-pub made : (events : List (List ℕ)) (command : Option (List ℕ)) (functions : List FuncKey) (files : List (List ℕ))
+pub is_profile : (events : List (List ℕ)) (command : Option (List ℕ)) (functions : List FuncKey) (files : List (List ℕ))
     (rows : List SelfRow) (arcs : List CallRow)
     → AreEvents events → AreApart functions → AreApart files
     → AllByRecursion (FitsSelf (length events) (length functions) (length files)) rows
     → AllByRecursion (FitsCall (length events) (length functions) (length files)) arcs
     → IsProfile (contents events command functions files rows arcs)
-made events command functions files rows arcs are apart_n apart_f fit_s fit_c = record {
+is_profile events command functions files rows arcs are apart_n apart_f fit_s fit_c = record {
   event_limit = are.limit;
   events_differ = apart_names events are.differ;
   functions_differ = apart_n;

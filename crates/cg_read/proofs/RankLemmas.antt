@@ -6,7 +6,7 @@ use Rattle.std.proofs.lemmas.List.{length-map, get_or-map}
 use Rattle.key_tables.specs.Ranks.{AreTextRanks}
 use Rattle.cg_read.specs.Profiles.{function_at, unknown_function}
 use Rattle.cg_read.specs.Ranks.{AreRanks, CompareAlike, rank_at, text_order}
-use Rattle.cg_read.specs.inner.Gains.{renumbered}
+use Rattle.cg_read.specs.inner.Gains.{renumber}
 use Rattle.cg_read.specs.inner.Texts.{IsOfTexts, function_in, text_in}
 use Rattle.cg_read.specs.declared.function_numbers.FunctionNumbers.{FunctionNumbers}
 use Rattle.cg_read.specs.declared.rows.FuncKey.{FuncKey}
@@ -20,12 +20,12 @@ module _ (texts : List (List ℕ)) (numbered : List FunctionNumbers) (ranks : Li
   functions = map (function_in texts) numbered
 
   abbrev renamed : List FunctionNumbers
-  renamed = map (renumbered ranks) numbered
+  renamed = map (renumber ranks) numbered
 
   -- a text of the functions and its rank
   alike : (text : FuncKey → List ℕ) (number : FunctionNumbers → ℕ)
       → ((n : FunctionNumbers) → text (function_in texts n) ≡ text_in texts (number n))
-      → ((n : FunctionNumbers) → number (renumbered ranks n) ≡ slice_index ranks (number n))
+      → ((n : FunctionNumbers) → number (renumber ranks n) ≡ slice_index ranks (number n))
       → ((n : FunctionNumbers) → IsOfTexts (length texts) n → number n < length texts)
       → CompareAlike functions renamed text number
   alike text number is_text is_rank within f g at_f at_g =
@@ -34,7 +34,7 @@ module _ (texts : List (List ℕ)) (numbered : List FunctionNumbers) (ranks : Li
       let rank : (k : ℕ) → k < length numbered
       → number (rank_at renamed k) ≡ slice_index ranks (number (get_or numbered k nowhere))
       = λ k lt.
-      ap number (get_or-map (renumbered ranks) numbered k nowhere nowhere lt) ∙ is_rank (get_or numbered k nowhere) in
+      ap number (get_or-map (renumber ranks) numbered k nowhere nowhere lt) ∙ is_rank (get_or numbered k nowhere) in
       let word : (k : ℕ) → k < length numbered
       → text (function_at functions k) ≡ text_in texts (number (get_or numbered k nowhere))
       = λ k lt.
@@ -50,7 +50,7 @@ module _ (texts : List (List ℕ)) (numbered : List FunctionNumbers) (ranks : Li
 
   pub function_ranks : AreRanks functions renamed
   function_ranks = record {
-    size = length-map numbered (renumbered ranks) ∙ sym (length-map numbered (function_in texts));
+    size = length-map numbered (renumber ranks) ∙ sym (length-map numbered (function_in texts));
     object = alike (λ f. f.object) (λ n. n.object) (λ n. refl) (λ n. refl) (λ n known. known.object);
     file = alike (λ f. f.file) (λ n. n.file) (λ n. refl) (λ n. refl) (λ n known. known.file);
     name = alike (λ f. f.name) (λ n. n.name) (λ n. refl) (λ n. refl) (λ n known. known.name);

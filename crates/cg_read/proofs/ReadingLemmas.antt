@@ -12,7 +12,7 @@ use Rattle.cg_lines.specs.Faults.{Refuses}
 use Rattle.std.specs.List.{AllByRecursion}
 use Rattle.cg_read.specs.Profiles.{AreApart, Contents, FitsSelf, FitsCall, IsProfile, contents, SaysTheSame}
 use Rattle.cg_read.specs.inner.Events.{AreEvents}
-use Rattle.cg_read.proofs.ProfileLemmas.{made}
+use Rattle.cg_read.proofs.ProfileLemmas.{is_profile}
 use Rattle.cg_read.specs.Reading.{Says, Reads, history, history_of, bad_line, first_bad, end_fault, last_line}
 use Rattle.cg_read.specs.inner.Knowing.{Knows, Opens}
 use Rattle.cg_read.specs.inner.Texts.{function_in, text_in}
@@ -62,7 +62,7 @@ texts_say r before es k named apart_f apart_t =
     (length (map (text_in r.texts) r.draft.files))) r.draft.call_rows.items
     = rw named at k.rows.rows.stands.call_fit in
     says_of r before es k named
-    (made es r.command (map (function_in r.texts) r.draft.functions) (map (text_in r.texts) r.draft.files)
+    (is_profile es r.command (map (function_in r.texts) r.draft.functions) (map (text_in r.texts) r.draft.files)
     r.draft.self_rows.items r.draft.call_rows.items are apart_f apart_t fits_s fits_c)
 
 -- One line more

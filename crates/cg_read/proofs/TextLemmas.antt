@@ -10,8 +10,8 @@ use Rattle.cg_read.specs.Profiles.{NamedSelf, NamedCall}
 use Rattle.cg_read.specs.inner.Drafts.{StandForNumbered}
 use Rattle.cg_read.specs.inner.Knowing.{Knows, Opens}
 use Rattle.cg_read.specs.inner.Texts.{Keeps, Means, Names, IsOfTexts, function_in, text_in}
-use Rattle.key_tables.specs.Keys.{added}
-use Rattle.cg_read.proofs.DraftLemmas.{added-grows, fresh}
+use Rattle.key_tables.specs.Keys.{with_key}
+use Rattle.cg_read.proofs.DraftLemmas.{with_key-grows, fresh}
 use Rattle.cg_read.specs.declared.rows.FuncKey.{FuncKey}
 use Rattle.cg_read.specs.declared.rows.SelfRow.{SelfRow}
 use Rattle.cg_read.specs.declared.rows.CallRow.{CallRow}
@@ -79,10 +79,10 @@ closed_opens texts (Some o) h = absurd (search (rules))
 pub keeps_all : (texts : List (List ℕ)) → Keeps texts texts
 keeps_all texts = λ n text h. h
 
-pub added_keeps : (same : List ℕ → List ℕ → Bool) (old new : List (List ℕ)) (text : List ℕ) → new ≡ added same old text
+pub added_keeps : (same : List ℕ → List ℕ → Bool) (old new : List (List ℕ)) (text : List ℕ) → new ≡ with_key same old text
     → Keeps old new
 added_keeps same old new text e = λ n t at.
-    ap (λ (l : List (List ℕ)). slice_get l n) (e ∙ added-grows same old text)
+    ap (λ (l : List (List ℕ)). slice_get l n) (e ∙ with_key-grows same old text)
     ∙ slice_get_kept old (fresh same old text) n t at
 
 pub means_kept : (old new : List (List ℕ)) → Keeps old new → (o : Option ℕ) (t : Option (List ℕ)) → Means old o t

@@ -120,8 +120,8 @@ module _ (n : ℕ) (fs : List FuncKey) (ts : List (List ℕ)) (apart_f : AreApar
       rw (one, call_is rs qs h.1 k.1 (ap (drop 1) e)) refl
 
 -- with the same events it is the profile itself
-pub copied : (p q : Contents) → IsProfile p → IsAppended (no_rows p.events) p q → q ≡ p
-copied p q holds_p a =
+pub copy_is : (p q : Contents) → IsProfile p → IsAppended (no_rows p.events) p q → q ≡ p
+copy_is p q holds_p a =
     let holds_q = a.profile in
     let n : ℕ = length p.events in
     let fs : List FuncKey = p.functions in

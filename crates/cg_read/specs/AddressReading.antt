@@ -12,7 +12,7 @@ use Rattle.cg_read.specs.Reading as reading
 use Rattle.cg_read.specs.Reading.{end_fault, first_fault}
 use Rattle.cg_read.specs.Addresses as addresses
 use Rattle.cg_lines.specs.Addressed.{addressed_of}
-use Rattle.cg_read.specs.Addresses.{bare, fault}
+use Rattle.cg_read.specs.Addresses.{without_addresses, fault}
 use Rattle.cg_lines.specs.Positions.{two_parts}
 use Rattle.cg_lines.specs.declared.line.Line.{Line}
 use Rattle.cg_lines.specs.declared.line.Line.TheVariants.{Positions}
@@ -55,7 +55,7 @@ bad_line before = first_fault fault before
 
 -- the first bad line of a file, and its kind
 abbrev pub first_bad : List ℕ → Option FormatError
-first_bad bytes = or_else (bad_line (history bytes)) (end_fault (bare (history bytes)))
+first_bad bytes = or_else (bad_line (history bytes)) (end_fault (without_addresses (history bytes)))
 
 -- A profile whose rows have addresses: the profile without them, and the addresses of its rows in their order.
 pub record AddrContents : Type 0 where
@@ -71,7 +71,7 @@ pub record AreAddressed (p : AddrContents) : Type 0 where
 -- The lines of a history say this profile.
 pub record Says (before : List AddressedLine) (p : AddrContents) : Type 0 where
   -- without their addresses they say it as any lines do
-  pub lines : reading.Says (bare before) p.lines
+  pub lines : reading.Says (without_addresses before) p.lines
   pub self_addresses : p.self_addresses ≡ addresses.self_addresses before
   pub call_addresses : p.call_addresses ≡ addresses.call_addresses before
 
@@ -90,7 +90,7 @@ pub record SaysTheSame (p q : AddrContents) : Type 0 where
 
 -- the lines that a file says, without addresses
 abbrev pub lines_said : List ℕ → List Line
-lines_said bytes = if is_addr_file bytes then bare (history bytes) else reading.history bytes
+lines_said bytes = if is_addr_file bytes then without_addresses (history bytes) else reading.history bytes
 
 -- its first bad line, and the kind of it
 abbrev pub first_bad_of : List ℕ → Option FormatError

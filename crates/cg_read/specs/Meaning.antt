@@ -7,16 +7,16 @@ use Rattle.std.specs.Str.{bytes_eq}
 use Rattle.cg_lines.specs.Lines.{words}
 use Rattle.cg_lines.specs.Names.{is_distinct, same_names}
 use Rattle.cg_lines.specs.Numbers.{number_of, value_of}
-use Rattle.cg_lines.specs.Positions.{place_at, positions_fault}
+use Rattle.cg_lines.specs.Positions.{position_at, positions_fault}
 pub use Rattle.cg_positions.specs.Positions.{position}
 use Rattle.cg_lines.specs.Shapes.{follows_call}
 use Rattle.cg_read.specs.Profiles.{most_events, unknown, unknown_function, NamedSelf, NamedCall}
 use Rattle.cg_read.specs.declared.rows.FuncKey.{FuncKey}
 use Rattle.cg_lines.specs.declared.number.Number.{Number}
 use Rattle.cg_lines.specs.declared.number.Number.TheVariants.{Fits, TooLarge}
-use Rattle.cg_lines.specs.declared.place.Place.{Place}
+use Rattle.cg_lines.specs.declared.sub_position.SubPosition.{SubPosition}
 use Rattle.cg_lines.specs.declared.name.Name.{Name}
-use Rattle.cg_lines.specs.declared.name.Name.TheVariants.{Plain, Known, Named}
+use Rattle.cg_lines.specs.declared.name.Name.TheVariants.{Plain, Id, Named}
 use Rattle.cg_lines.specs.declared.line.Line.{Line}
 use Rattle.cg_lines.specs.declared.line.Line.TheVariants.{Blank, Header, Command, Events, Positions, Object, File}
 use Rattle.cg_lines.specs.declared.line.Line.TheVariants.{Function, CalleeObject, CalleeFile, Callee, Calls, BadCalls}
@@ -29,13 +29,13 @@ use Rattle.cg_lines.specs.declared.fault.Fault.TheVariants.{BadLine, NoEvents, J
 -- the text that a name stands for, where the ids stand for these texts
 abbrev pub text_of : (List ℕ → Option (List ℕ)) → Name → Option (List ℕ)
 text_of ids (Plain text) = Some text
-text_of ids (Known id) = ids id
+text_of ids (Id id) = ids id
 text_of ids (Named id text) = Some text
 
 -- what the ids stand for after a line with this name
 abbrev pub ids_after : (List ℕ → Option (List ℕ)) → Name → List ℕ → Option (List ℕ)
 ids_after ids (Plain text) q = ids q
-ids_after ids (Known id) q = ids q
+ids_after ids (Id id) q = ids q
 ids_after ids (Named id text) q = if bytes_eq id q then Some text else ids q
 
 -- an id stands for its last definition; objects, files and functions have ids of their own
@@ -207,9 +207,9 @@ fault_alone before (CalleeObject name) = id_fault (text_of (object_ids before) n
 fault_alone before (CalleeFile name) = id_fault (text_of (file_ids before) name)
 fault_alone before (Callee name) = id_fault (text_of (function_ids before) name)
 fault_alone before (Calls n place) =
-    calls_fault (events before) (callee_name before) n (place_at (position before) place)
+    calls_fault (events before) (callee_name before) n (position_at (position before) place)
 fault_alone before BadCalls = shape_fault (events before)
-fault_alone before (Cost place costs) = cost_fault (events before) (place_at (position before) place) (numbers costs)
+fault_alone before (Cost place costs) = cost_fault (events before) (position_at (position before) place) (numbers costs)
 fault_alone before BadCost = shape_fault (events before)
 fault_alone before Jump = Some Jumps
 fault_alone before Bad = Some BadLine
@@ -221,10 +221,10 @@ fault before line = if is_some (open_call before) && not (follows_call line) the
 
 -- Rows
 
-abbrev pub line_at : List Line → Place → ℕ
-line_at before place = unwrap_or (place_at (position before) place) 0
+abbrev pub line_at : List Line → SubPosition → ℕ
+line_at before place = unwrap_or (position_at (position before) place) 0
 
-abbrev pub self_row : List Line → Place → List ℕ → NamedSelf
+abbrev pub self_row : List Line → SubPosition → List ℕ → NamedSelf
 self_row before place costs = record {
   function = current_function before;
   file = current_file before;
@@ -232,7 +232,7 @@ self_row before place costs = record {
   cost = cost_of before costs;
 }
 
-abbrev pub call_row : List Line → Place → List ℕ → Call → NamedCall
+abbrev pub call_row : List Line → SubPosition → List ℕ → Call → NamedCall
 call_row before place costs call = record {
   caller = current_function before;
   file = current_file before;

@@ -14,5 +14,5 @@ total p event = column_sum p.self_rows event
 -- of so many places, this is the first whose sum passes 2^64 - 1
 pub record IsFirstOver (rows : List SelfRow) (places place : ℕ) : Type 0 where
   pub within : place < places
-  pub over : 2 ^ 64 ≤ column_sum rows place
+  pub too_large : 2 ^ 64 ≤ column_sum rows place
   pub first : (p : ℕ) → p < place → column_sum rows p < 2 ^ 64

@@ -1,7 +1,7 @@
 //! The whole file, where positions may have addresses.
 
 ghost use Rattle.std.specs.Prelude.{◌≡◌, ◌⊎◌, None, true, [], List, IfOk, IfErr, OnOk, MatchResult};
-ghost use Rattle.cg_read.specs.Addresses.{bare};
+ghost use Rattle.cg_read.specs.Addresses.{without_addresses};
 ghost use Rattle.cg_read.specs.AddressReading.{AddrContents, Reads, ReadsLines, Says, SaysTheSame, bad_line};
 ghost use Rattle.cg_read.specs.AddressReading.{first_bad, first_bad_of, history, is_addr_file};
 ghost use Rattle.cg_read.specs.Faults.{Answers, IsWantOfMemory};
@@ -33,7 +33,7 @@ fn take_lines<'a>(reader: &mut AddrReader<'a>, bytes: &'a [u8]) -> Result<u64, F
     requires { KnowsAddresses reader.old [] }
     ensures knows { OnOk result (KnowsAddresses reader.new (history bytes.now)) }
     ensures sound { OnOk result (bad_line (history bytes.now) ≡ None) }
-    ensures last { IfOk result (λ last. last ≡ last_line (bare (history bytes.now))) }
+    ensures last { IfOk result (λ last. last ≡ last_line (without_addresses (history bytes.now))) }
     ensures err { IfErr result (λ e. Answers e (first_bad bytes.now)) }
 {
     let mut number: u64 = 0;
@@ -50,7 +50,10 @@ fn take_lines<'a>(reader: &mut AddrReader<'a>, bytes: &'a [u8]) -> Result<u64, F
 }
 
 /// The profile that the lines say.
-fn said<'a>(reader: &mut AddrReader<'a>, bytes: &'a [u8]) -> Result<AddrProfile, FormatError>
+fn read_profile<'a>(
+    reader: &mut AddrReader<'a>,
+    bytes: &'a [u8],
+) -> Result<AddrProfile, FormatError>
     requires { KnowsAddresses reader.old [] }
     ensures { MatchResult result (λ p. (first_bad bytes.now ≡ None) × Says (history bytes.now) p)
         (λ e. Answers e (first_bad bytes.now)) }
@@ -64,7 +67,7 @@ fn read_addr_lines(alloc: Global, bytes: &[u8]) -> Result<AddrProfile, FormatErr
         (λ e. Answers e (first_bad bytes.now)) }
 {
     let mut reader = AddrReader::new(alloc)?;
-    said(&mut reader, bytes)
+    read_profile(&mut reader, bytes)
 }
 
 /// Reads a profile in the Callgrind format whose positions have two parts, an address and a line, or answers the first

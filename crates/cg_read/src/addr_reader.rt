@@ -1,7 +1,7 @@
 //! The state that is carried from line to line where lines have addresses.
 
 ghost use Rattle.std.specs.Prelude.{◌≡◌, ◌&&◌, ◌||◌, not, [], None, List, IfOk, MatchResult};
-ghost use Rattle.cg_read.specs.Addresses.{bare, is_early};
+ghost use Rattle.cg_read.specs.Addresses.{without_addresses, is_early};
 ghost use Rattle.cg_lines.specs.Shapes.{is_positions};
 ghost use Rattle.cg_read.specs.AddressReading.{Says};
 ghost use Rattle.cg_read.specs.Faults.{Answers};
@@ -13,9 +13,9 @@ use crate::addr_profile::AddrProfile;
 use crate::addresses::{Addresses, address_at};
 use crate::error::FormatError;
 use crate::reader::Reader;
-use crate::rows::taken;
-use cg_lines::{AddressedLine, Fault, Line};
+use crate::rows::take_all;
 use byte_text::OutOfMemory;
+use cg_lines::{AddressedLine, Fault, Line};
 use std::alloc::Global;
 
 /// What the lines so far say of the next one. Without their addresses, lines are read as any others.
@@ -42,14 +42,14 @@ impl<'a> AddrReader<'a> {
     /// The profile that the lines say, at the file's end. `last` is the number of the last line that carries something.
     /// The reader is then of no use.
     pub(crate) fn finish(&mut self, last: u64) -> Result<AddrProfile, FormatError>
-        requires { (before : List AnyLine) × KnowsAddresses self.old before × (last ≡ last_line (bare before)) }
-        ensures { (before : List AnyLine) → KnowsAddresses self.old before → last ≡ last_line (bare before)
-            → MatchResult result (λ p. Says before p × (end_fault (bare before) ≡ None))
-            (λ e. Answers e (end_fault (bare before))) }
+        requires { (before : List AnyLine) × KnowsAddresses self.old before × (last ≡ last_line (without_addresses before)) }
+        ensures { (before : List AnyLine) → KnowsAddresses self.old before → last ≡ last_line (without_addresses before)
+            → MatchResult result (λ p. Says before p × (end_fault (without_addresses before) ≡ None))
+            (λ e. Answers e (end_fault (without_addresses before))) }
     {
         let lines = self.reader.finish(last)?;
-        let self_rows = taken(&mut self.addresses.self_rows);
-        let call_rows = taken(&mut self.addresses.call_rows);
+        let self_rows = take_all(&mut self.addresses.self_rows);
+        let call_rows = take_all(&mut self.addresses.call_rows);
         Ok(AddrProfile::new(lines, self_rows, call_rows))
     }
 

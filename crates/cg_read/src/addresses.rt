@@ -4,8 +4,8 @@ ghost use Rattle.std.specs.Prelude.{◌≡◌, ◌++◌, ◌&&◌, not, None, []
 ghost use Rattle.cg_read.specs.Addresses.{address_at, address_fault, address_if};
 ghost use Rattle.cg_lines.specs.Faults.{Refuses};
 
-use cg_lines::{Fault, Place, place_at};
 use byte_text::OutOfMemory;
+use cg_lines::{Fault, SubPosition, position_at};
 use std::alloc::Global;
 
 /// The addresses of the rows so far, and what relative ones count from.
@@ -58,14 +58,14 @@ impl Addresses {
 }
 
 /// The address that is meant, where relative ones count from this base.
-pub(crate) fn address_at(base: u64, address: Option<Place>) -> Result<u64, Fault>
+pub(crate) fn address_at(base: u64, address: Option<SubPosition>) -> Result<u64, Fault>
     ensures { MatchResult result (λ n. (n ≡ address_at base address) × (address_fault base address ≡ None))
         (λ e. Refuses e (address_fault base address)) }
 {
     let Some(place) = address else {
         return Ok(0);
     };
-    match place_at(base, place) {
+    match position_at(base, place) {
         Some(address) => Ok(address),
         None => Err(Fault::BadNumber),
     }

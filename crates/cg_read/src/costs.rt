@@ -5,8 +5,8 @@ ghost use Rattle.cg_lines.specs.Faults.{Refuses};
 ghost use Rattle.cg_read.specs.Meaning.{numbers, numbers_fault, padded, values};
 
 use crate::rows::CostList;
-use cg_lines::{Fault, Number, Words, number_of};
 use byte_text::OutOfMemory;
+use cg_lines::{Fault, Number, Words, number_of};
 use std::alloc::Global;
 
 /// Puts the costs on a cost line of a file with this many events to a list.

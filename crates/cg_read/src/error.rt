@@ -7,8 +7,8 @@ ghost use Rattle.cg_read.specs.declared.error.SumError.TheVariants.{OutOfMemory}
 ghost use Rattle.cg_read.specs.declared.error.MergeError.TheVariants.{OutOfMemory as NoMemory};
 ghost use Rattle.byte_text.specs.Memory.{memory};
 
-use cg_lines::Fault;
 use byte_text::OutOfMemory;
+use cg_lines::Fault;
 use std::alloc::{AllocError, AllocFailed};
 use thiserror::Error;
 

@@ -5,7 +5,7 @@ ghost use Rattle.std.specs.Prelude.{vec_capacity, vec_len};
 ghost use Rattle.cg_read.specs.Merge.{missing};
 ghost use Rattle.cg_read.specs.Profiles.{AreApart, function_at, same_function};
 ghost use Rattle.cg_read.specs.Ranks.{AreRanks};
-ghost use Rattle.cg_read.specs.inner.Gains.{NumberEach, renumbered};
+ghost use Rattle.cg_read.specs.inner.Gains.{NumberEach, renumber};
 ghost use Rattle.cg_read.specs.inner.Texts.{IsOfTexts, function_in};
 
 use crate::function_numbers::FunctionNumbers;
@@ -29,7 +29,7 @@ pub struct Functions {
 impl Model for Functions {
     ghost use Rattle.std.specs.Prelude.{List, map};
     ghost use Rattle.cg_read.specs.Ranks.{text_order};
-    ghost use Rattle.key_tables.specs.Known.{Knows};
+    ghost use Rattle.key_tables.specs.Indexes.{Knows};
     ghost use Rattle.cg_read.specs.inner.Texts.{AreOfTexts, function_in, numbers_order};
     ghost use Rattle.cg_read.specs.declared.rows.FuncKey.{FuncKey};
 
@@ -42,13 +42,13 @@ impl Model for Functions {
 }
 
 /// Functions whose texts have other numbers.
-fn renumbered(
+fn renumber(
     alloc: Global,
     functions: &[FunctionNumbers],
     numbers: &[usize],
 ) -> Result<Vec<FunctionNumbers>, OutOfMemory>
     requires { All (IsOfTexts (length numbers.now)) functions.now }
-    ensures { IfOk result (λ copies. copies.items ≡ map (renumbered numbers.now) functions.now) }
+    ensures { IfOk result (λ copies. copies.items ≡ map (renumber numbers.now) functions.now) }
 {
     let mut copies = Vec::with_capacity(alloc, functions.len())?;
     'functions: for function in functions {
@@ -118,7 +118,7 @@ impl Functions {
         ensures { IfOk result (λ ranks. AreRanks self.now ranks.items) }
     {
         let ranks = text_ranks(alloc, &self.texts)?;
-        renumbered(alloc, &self.numbered, &ranks)
+        renumber(alloc, &self.numbered, &ranks)
     }
 
     /// Appends those of other functions that aren't among these, and gives the numbers that the others then have. It
@@ -135,9 +135,9 @@ impl Functions {
         ensures apart { OnOk result (AreApart self.new) }
         ensures err { OnErr result (self.new ≡ self.old) }
     {
-        let texts = self.text_index.gained(alloc, &self.texts, &others.texts)?;
-        let others = renumbered(alloc, &others.numbered, &texts.numbers)?;
-        let functions = self.index.gained(alloc, &self.numbered, &others)?;
+        let texts = self.text_index.gain(alloc, &self.texts, &others.texts)?;
+        let others = renumber(alloc, &others.numbered, &texts.numbers)?;
+        let functions = self.index.gain(alloc, &self.numbered, &others)?;
         self.texts.reserve(texts.added.len())?;
         self.numbered.reserve(functions.added.len())?;
         append_all(&mut self.texts, texts.added);

@@ -25,7 +25,7 @@ pub(crate) struct CountedId<'a> {
 /// at their places. Only others are searched for.
 #[derive(Drop)]
 pub(crate) struct Ids<'a> {
-    pub(crate) counted: Vec<CountedId<'a>>,
+    pub(crate) slots: Vec<CountedId<'a>>,
     pub(crate) others: BTreeMap<TextRef<'a>, usize>,
 }
 
@@ -56,7 +56,7 @@ impl<'a> Ids<'a> {
         ensures { (id : List ℕ) → number_in result id ≡ None }
     {
         Ids {
-            counted: Vec::new(alloc),
+            slots: Vec::new(alloc),
             others: BTreeMap::new(alloc),
         }
     }
@@ -78,8 +78,8 @@ impl<'a> Ids<'a> {
         let Some(place) = place_of(id) else {
             return self.other_number(id);
         };
-        if is_at(&self.counted, place, id) {
-            Some(self.counted[place].number)
+        if is_at(&self.slots, place, id) {
+            Some(self.slots[place].number)
         } else {
             self.other_number(id)
         }
@@ -87,7 +87,7 @@ impl<'a> Ids<'a> {
 
     /// Lets an id that isn't counted stand for the text of this number.
     fn set_other(&mut self, id: &TextRef<'a>, number: usize) -> Result<(), OutOfMemory>
-        ensures counted { self.new.counted ≡ self.old.counted }
+        ensures counted { self.new.slots ≡ self.old.slots }
         ensures others { OnOk result ((q : List ℕ) → other_number self.new q
             ≡ cond (bytes_eq id.now q) (Some number) (other_number self.old q)) }
     {
@@ -104,17 +104,17 @@ impl<'a> Ids<'a> {
         let Some(spot) = place_of(id) else {
             return self.set_other(id, number);
         };
-        if is_at(&self.counted, spot, id) {
-            self.counted[spot] = CountedId {
+        if is_at(&self.slots, spot, id) {
+            self.slots[spot] = CountedId {
                 id: id.again(),
                 number,
             };
             return Ok(());
         }
-        if spot != self.counted.len() {
+        if spot != self.slots.len() {
             return self.set_other(id, number);
         }
-        self.counted.push(CountedId {
+        self.slots.push(CountedId {
             id: id.again(),
             number,
         })?;
@@ -162,7 +162,7 @@ pub(crate) fn resolve<'a>(
 {
     match name {
         Name::Plain(text) => Ok(texts.number(text.again())?),
-        Name::Known(id) => match ids.number(id) {
+        Name::Id(id) => match ids.number(id) {
             Some(number) => Ok(number),
             None => Err(Fault::UnknownId),
         },

@@ -8,7 +8,7 @@ ghost use Rattle.cg_read.specs.Meaning.{or_else};
 ghost use Rattle.cg_read.specs.Merge.{IsJoined, agree};
 ghost use Rattle.cg_read.specs.inner.Gains.{HasRows, IsAppended, InRangeCall, InRangeSelf, NumberEach, no_rows};
 ghost use Rattle.cg_read.specs.inner.Gains.{renumbered_call, renumbered_self, with_gain};
-ghost use Rattle.key_tables.specs.Known.{Knows};
+ghost use Rattle.key_tables.specs.Indexes.{Knows};
 ghost use Rattle.cg_read.specs.Ranks.{text_order};
 
 use crate::costs::padded_costs;
@@ -117,7 +117,7 @@ fn gain_of(
     ensures has_rows { IfOk result (λ g. HasRows own.now.functions own.now other.now
         (with_gain own.now g.command g.files.items g.self_rows.items g.call_rows.items)) }
 {
-    let files = index.gained(alloc, &own.files, &other.files)?;
+    let files = index.gain(alloc, &own.files, &other.files)?;
     let events = own.events.len();
     let self_rows = renumbered_self_rows(
         alloc,
@@ -191,7 +191,7 @@ pub(crate) fn copy_of(profile: &Profile) -> Result<Profile, OutOfMemory>
     ensures { IfOk result (λ p. p ≡ profile.now) }
 {
     let alloc = *profile.self_rows.allocator();
-    let copy = profile.widened(alloc, profile)?;
+    let copy = profile.wider_copy(alloc, profile)?;
     Ok(copy)
 }
 
@@ -296,7 +296,7 @@ impl Profile {
         ensures joined { OnOk result (IsJoined self.old other.now self.new) }
         ensures err { OnErr result (self.new ≡ self.old) }
     {
-        let mut joined = self.widened(alloc, other)?;
+        let mut joined = self.wider_copy(alloc, other)?;
         let mut fresh = Index::new(alloc);
         joined.append(alloc, &mut fresh, other)?;
         *self = joined;
@@ -305,7 +305,7 @@ impl Profile {
     }
 
     /// The rows of this profile, appended to a profile of the events of another, which has no fewer.
-    fn widened(&self, alloc: Global, other: &Profile) -> Result<Profile, OutOfMemory>
+    fn wider_copy(&self, alloc: Global, other: &Profile) -> Result<Profile, OutOfMemory>
         requires { length self.now.events ≤ length other.now.events }
         ensures { IfOk result (λ p. IsAppended (no_rows other.now.events) self.now p) }
     {
@@ -327,7 +327,7 @@ pub struct Joined {
 impl Model for Joined {
     ghost use Rattle.cg_read.specs.Profiles.{Contents};
     ghost use Rattle.cg_read.specs.Ranks.{text_order};
-    ghost use Rattle.key_tables.specs.Known.{Knows};
+    ghost use Rattle.key_tables.specs.Indexes.{Knows};
 
     ghost Value = { Contents };
 

@@ -42,7 +42,7 @@ fn take_lines<'a>(reader: &mut Reader<'a>, bytes: &'a [u8]) -> Result<u64, Forma
 }
 
 /// The profile that the lines say.
-fn said<'a>(reader: &mut Reader<'a>, bytes: &'a [u8]) -> Result<Profile, FormatError>
+fn read_profile<'a>(reader: &mut Reader<'a>, bytes: &'a [u8]) -> Result<Profile, FormatError>
     requires { Knows reader.old [] }
     ensures { MatchResult result (λ p. (first_bad bytes.now ≡ None) × Says (history bytes.now) p)
         (λ e. Answers e (first_bad bytes.now)) }
@@ -56,7 +56,7 @@ fn read_lines(alloc: Global, bytes: &[u8]) -> Result<Profile, FormatError>
         (λ e. Answers e (first_bad bytes.now)) }
 {
     let mut reader = Reader::new(alloc)?;
-    said(&mut reader, bytes)
+    read_profile(&mut reader, bytes)
 }
 
 /// Reads a profile in the Callgrind format (Callgrind Format Specification, version 1), or answers the first line that

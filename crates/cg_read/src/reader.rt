@@ -24,11 +24,11 @@ use crate::error::FormatError;
 use crate::function_numbers::FunctionNumbers;
 use crate::ids::{KnownIds, resolve};
 use crate::profile::Profile;
-use crate::rows::{CostList, taken};
+use crate::rows::{CostList, take_all};
 use crate::texts::ProfileTexts;
 use byte_text::{OutOfMemory, TextRef, UNKNOWN};
 use cg_lines::{
-    Fault, Line, Name, Number, Place, are_distinct, event_names, place_at, positions_fault,
+    Fault, Line, Name, Number, SubPosition, are_distinct, event_names, position_at, positions_fault,
 };
 use cg_positions::position_after;
 use key_tables::Table;
@@ -149,8 +149,8 @@ impl<'a> Reader<'a> {
             → MatchResult result (λ p. Says before p × (end_fault before ≡ None)) (λ e. Answers e (end_fault before)) }
     {
         let texts = self.profile_texts(last)?;
-        let self_rows = taken(&mut self.draft.self_rows);
-        let call_rows = taken(&mut self.draft.call_rows);
+        let self_rows = take_all(&mut self.draft.self_rows);
+        let call_rows = take_all(&mut self.draft.call_rows);
         Ok(texts.with_rows(self_rows, call_rows))
     }
 
@@ -252,7 +252,7 @@ impl<'a> Reader<'a> {
     }
 
     /// A call waits for its cost line.
-    fn calls_line(&mut self, count: Number, place: Place) -> Result<(), Fault>
+    fn calls_line(&mut self, count: Number, place: SubPosition) -> Result<(), Fault>
         requires { IsNone self.old.open_call }
         ensures { TakesAlone self.old (Line.Calls count place) result self.new }
     {
@@ -265,7 +265,7 @@ impl<'a> Reader<'a> {
         let Number::Fits(calls) = count else {
             return Err(Fault::BadNumber);
         };
-        if place_at(self.position, place).is_none() {
+        if position_at(self.position, place).is_none() {
             return Err(Fault::BadNumber);
         }
         self.open_call = Some(OpenCall { callee, calls });
@@ -308,14 +308,14 @@ impl<'a> Reader<'a> {
         }
     }
 
-    fn cost_line(&mut self, place: Place, costs: &TextRef<'a>) -> Result<(), Fault>
+    fn cost_line(&mut self, place: SubPosition, costs: &TextRef<'a>) -> Result<(), Fault>
         ensures { TakesAlone self.old (Line.Cost place costs.now) result self.new }
     {
         let Some(events) = &self.events else {
             return Err(Fault::NoEvents);
         };
         let cost = costs_of(self.alloc, costs.as_bytes(), events.len())?;
-        let Some(line) = place_at(self.position, place) else {
+        let Some(line) = position_at(self.position, place) else {
             return Err(Fault::BadNumber);
         };
         self.row(line, cost)?;

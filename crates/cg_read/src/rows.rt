@@ -59,7 +59,7 @@ pub struct CallRow {
 }
 
 /// The items, of which none are left.
-pub(crate) fn taken<T: Drop>(items: &mut Vec<T>) -> Vec<T>
+pub(crate) fn take_all<T: Drop>(items: &mut Vec<T>) -> Vec<T>
     ensures { result ≡ items.old }
 {
     let alloc = *items.allocator();

@@ -2,7 +2,7 @@
 use Rattle.std.specs.Prelude.{ℕ, ◌++◌, Bool, true, false, if◌then◌else◌, ◌==◌, List, [], ◌∷◌}
 use Rattle.std.specs.Prelude.{codes, decimal, map}
 use Rattle.byte_text.specs.Hex.{hex}
-use Rattle.byte_text.specs.Names.{cleaned}
+use Rattle.byte_text.specs.Names.{clean_name}
 use Rattle.elf_read.specs.declared.error.ElfError.{ElfError}
 use Rattle.elf_read.specs.declared.error.ElfError.TheVariants as elf
 use Rattle.elf_read.specs.declared.error.Field.{Field}
@@ -64,13 +64,13 @@ text_of Done = []
 text_of (Exited code) = codes "exited with " ++ decimal code
 text_of Usage = usage
 text_of (ElfRefused error) = codes "elf refused: " ++ elf_text error
-text_of (LoadFault name) = codes "cannot load " ++ cleaned name
-text_of (PutFault name) = codes "cannot write " ++ cleaned name
+text_of (LoadFault name) = codes "cannot load " ++ clean_name name
+text_of (PutFault name) = codes "cannot write " ++ clean_name name
 text_of OutFault = []
-text_of (TooLong name len) = codes "too long: " ++ cleaned name ++ codes ", " ++ decimal len ++ codes " bytes"
-text_of (FormatRefused name error) = cleaned name ++ format_text error
+text_of (TooLong name len) = codes "too long: " ++ clean_name name ++ codes ", " ++ decimal len ++ codes " bytes"
+text_of (FormatRefused name error) = clean_name name ++ format_text error
 text_of (SumLimit event) = codes "sum limit: event " ++ decimal event
-text_of (EventsDiffer name) = cleaned name ++ codes ": other events"
+text_of (EventsDiffer name) = clean_name name ++ codes ": other events"
 text_of (Killed signal pc) = codes "killed by signal " ++ decimal signal ++ codes " at " ++ hex pc
 text_of (UnsupportedInstr pc word) = codes "unsupported instruction " ++ hex word ++ codes " at " ++ hex pc
 text_of (UnsupportedCall pc number) = codes "unsupported call " ++ decimal number ++ codes " at " ++ hex pc

@@ -1,7 +1,7 @@
 //! The line that tells the user how a command ended.
 
 ghost use Rattle.std.specs.Prelude.{◌≡◌, ◌++◌, IfOk, OnErr, OnOk, codes, decimal, false};
-ghost use Rattle.byte_text.specs.Names.{cleaned};
+ghost use Rattle.byte_text.specs.Names.{clean_name};
 ghost use Rattle.command_status.specs.Lines.{elf_text, format_text, is_silent, message_of, text_of, usage};
 ghost use Rattle.byte_text.specs.Hex.{hex};
 
@@ -100,7 +100,7 @@ fn push_refused(text: &mut Text, error: ElfError) -> Result<(), OutOfMemory>
 
 /// Appends words and a name, cleaned.
 fn push_named(alloc: Global, text: &mut Text, before: &[u8], name: &Text) -> Result<(), OutOfMemory>
-    ensures { OnOk result (text.new ≡ text.old ++ before.now ++ cleaned name.now) }
+    ensures { OnOk result (text.new ≡ text.old ++ before.now ++ clean_name name.now) }
 {
     text.push(before)?;
     push_name(alloc, text, name)
@@ -109,7 +109,7 @@ fn push_named(alloc: Global, text: &mut Text, before: &[u8], name: &Text) -> Res
 /// Appends that the file of this name is too long.
 fn push_too_long(alloc: Global, text: &mut Text, name: &Text, len: u64) -> Result<(), OutOfMemory>
     ensures { OnOk result
-        (text.new ≡ text.old ++ codes "too long: " ++ cleaned name.now ++ codes ", " ++ decimal len ++ codes " bytes") }
+        (text.new ≡ text.old ++ codes "too long: " ++ clean_name name.now ++ codes ", " ++ decimal len ++ codes " bytes") }
 {
     push_named(alloc, text, b"too long: ", name)?;
     push_between(text, b", ", len, b" bytes")

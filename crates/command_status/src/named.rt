@@ -1,14 +1,14 @@
 //! Names and numbers in a message.
 
 ghost use Rattle.std.specs.Prelude.{◌≡◌, ◌++◌, OnOk, decimal};
-ghost use Rattle.byte_text.specs.Names.{cleaned};
+ghost use Rattle.byte_text.specs.Names.{clean_name};
 
 use byte_text::{OutOfMemory, Text, clean_name};
 use std::alloc::Global;
 
 /// Appends a name, cleaned.
 pub fn push_name(alloc: Global, text: &mut Text, name: &Text) -> Result<(), OutOfMemory>
-    ensures { OnOk result (text.new ≡ text.old ++ cleaned name.now) }
+    ensures { OnOk result (text.new ≡ text.old ++ clean_name name.now) }
 {
     let name = clean_name(alloc, name.as_bytes())?;
     text.push(name.as_bytes())

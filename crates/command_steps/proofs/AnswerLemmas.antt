@@ -34,13 +34,13 @@ never_wanting found status answer known is none =
     known (stays found status answer (ap is_finished none) known is ∙ none)
 
 -- where no write failed, the line was written, and the status is what was found
-pub said : {U : Type 0} (found status : Status) (answer : Result U WriteError) (old new : Stream) (bytes : List ℕ)
+pub line_is_written : {U : Type 0} (found status : Status) (answer : Result U WriteError) (old new : Stream) (bytes : List ℕ)
     → (Rose old.faults new.faults → ⊥) → status ≢ OutOfMemory memory
     → status ≡ after_line found answer → WritesAll old.taken bytes old.faults new.faults answer new.taken
     → (status ≡ found) × (new.taken ≡ taken_more old.taken bytes)
-said found status (Ok _) old new bytes calm known is written = (is, written)
-said found status (Err write.Failed) old new bytes calm known is written = absurd (calm written.0)
-said found status (Err (write.OutOfMemory _)) old new bytes calm known is written = absurd (known is)
+line_is_written found status (Ok _) old new bytes calm known is written = (is, written)
+line_is_written found status (Err write.Failed) old new bytes calm known is written = absurd (calm written.0)
+line_is_written found status (Err (write.OutOfMemory _)) old new bytes calm known is written = absurd (known is)
 
 -- the outside after the work and before the line
 abbrev pub before_line : Outside → Stream → Outside

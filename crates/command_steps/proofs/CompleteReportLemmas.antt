@@ -12,7 +12,7 @@ use Rattle.outside.specs.declared.sink.WriteError.TheVariants as write
 use Rattle.cg_read.specs.Profiles.{Contents, has_text}
 use Rattle.cycles.specs.Limits.{AreAllWithin, IsFirstOver}
 use Rattle.profile_files.specs.Joined.{no_rows}
-use Rattle.profile_files.specs.Wanted.{with_limit}
+use Rattle.profile_files.specs.WantedFile.{with_limit}
 use Rattle.profile_files.specs.declared.fault.ReadFault.{ReadFault}
 use Rattle.profile_files.specs.declared.fault.ReadFault.TheVariants as read
 use Rattle.profile_files.proofs.CompleteLemmas.{IsComplete-from}
@@ -23,12 +23,12 @@ use Rattle.command_status.specs.Lines.{message_of}
 use Rattle.command_status.specs.Numbers.{is_finished}
 use Rattle.command_status.specs.declared.status.Status.{Status}
 use Rattle.command_status.specs.declared.status.Status.TheVariants.{Done, SumLimit, Usage, OutOfMemory}
-use Rattle.command_words.specs.Asked.{View}
+use Rattle.command_words.specs.Request.{View}
 use Rattle.command_steps.specs.Annotate.{AreTextsOf, IsMade, IsShown, IsSortPlace, IsTaken, annotating, profile_limit}
 use Rattle.command_steps.specs.Annotate.{read_fault, read_status, report_options, reporting, sort_fault, text_of}
-use Rattle.command_steps.specs.Annotate.{Annotates, Shown}
+use Rattle.command_steps.specs.Annotate.{Annotates, ReportOutcome}
 use Rattle.command_steps.specs.Certain.{Decides, IsCalm, IsCertainReport, IsReportDue, ReportsWhole}
-use Rattle.command_steps.specs.Gates.{Outcome, check, first_stop, passed}
+use Rattle.command_steps.specs.Gates.{Outcome, check, first_stop, gates_outcome}
 use Rattle.command_steps.specs.Saying.{Says, after_line}
 use Rattle.command_steps.proofs.AnswerLemmas.{IsRefusal, before_line, never_wanting, stays}
 use Rattle.std.proofs.lemmas.List.{append-nil}
@@ -39,13 +39,13 @@ use Rattle.byte_text.specs.Memory.{memory}
 
 none_over : (p : Contents) (position : ℕ) → AreAllWithin p → IsFirstOver p position → ⊥
 none_over p position all first =
-    let below = all position first.over.sum first.over.of_profile in
-    let above = first.over.over in omega (arith, below, above)
+    let below = all position first.too_large.sum first.too_large.of_profile in
+    let above = first.too_large.too_large in omega (arith, below, above)
 
 not_after : (p : Contents) (i j : ℕ) → IsFirstOver p i → IsFirstOver p j → i < j → ⊥
 not_after p i j one other before =
-    let below = other.first i one.over.sum before one.over.of_profile in
-    let above = one.over.over in omega (arith, below, above)
+    let below = other.first i one.too_large.sum before one.too_large.of_profile in
+    let above = one.too_large.too_large in omega (arith, below, above)
 
 only_one : (p : Contents) (i j : ℕ) → IsFirstOver p i → IsFirstOver p j → i ≡ j
 only_one p i j one other = by (cases_lt i j) (cases_lt j i)
@@ -117,7 +117,7 @@ module _ (old new : Outside) (err : Stream) (view : View) (p : Contents) (found 
     (line : Line old new err found status) where
   abbrev outcome_of : ℕ → SourceTexts → Result (List ℕ) ReportError → Result (Unit {0}) WriteError → ℕ → Outcome
   outcome_of sort texts report written count =
-      passed (reporting (Some (record {
+      gates_outcome (reporting (Some (record {
         sort = sort;
         texts = texts;
         report = report;
@@ -175,11 +175,11 @@ module _ (old new : Outside) (err : Stream) (view : View) (p : Contents) (found 
       → Leaves old (outcome_of sort texts report written count).output (before_line new err)
       → IsReportDue old view p status new
   due sort texts (Ok text) written count sorted sources made taken is leaves = record {
-    over = λ position first. absurd (none_over p position made.0 first);
+    too_large = λ position first. absurd (none_over p position made.0 first);
     within = λ all calm. written_whole sort texts text written count sorted sources made taken calm is leaves;
   }
   due sort texts (Err (report.SumLimit k)) written count sorted sources made taken is leaves = record {
-    over = λ position first.
+    too_large = λ position first.
         refused old new err found status (SumLimit k) line refl is
         ∙ ap (λ n. SumLimit n) (only_one p k position made first);
     within = λ all calm. absurd (none_over p k all made);
@@ -187,9 +187,9 @@ module _ (old new : Outside) (err : Stream) (view : View) (p : Contents) (found 
   due sort texts (Err (report.OutOfMemory _)) written count sorted sources made taken is leaves =
       absurd (wanting old new err found status line is)
 
-  due_if : (shown : Option Shown) → IfSome shown (λ s. IsShown old view p (before_line new err) s)
-      → found ≡ (passed (reporting shown) Done).status
-      → Leaves old (passed (reporting shown) Done).output (before_line new err)
+  due_if : (shown : Option ReportOutcome) → IfSome shown (λ s. IsShown old view p (before_line new err) s)
+      → found ≡ (gates_outcome (reporting shown) Done).status
+      → Leaves old (gates_outcome (reporting shown) Done).output (before_line new err)
       → IsReportDue old view p status new
   due_if None shows is leaves = absurd (wanting old new err found status line is)
   due_if (Some shown) shows is leaves =
@@ -197,20 +197,20 @@ module _ (old new : Outside) (err : Stream) (view : View) (p : Contents) (found 
       shows.written is leaves
 
   -- the event to sort by is in the profile, or not
-  by_sort : (stop : Option Status) (shown : Option Shown) → IsRefusal stop
+  by_sort : (stop : Option Status) (shown : Option ReportOutcome) → IsRefusal stop
       → IfSome shown (λ s. IsShown old view p (before_line new err) s)
-      → found ≡ (passed (check None ∷ check stop ∷ reporting shown) Done).status
-      → Leaves old (passed (check None ∷ check stop ∷ reporting shown) Done).output (before_line new err)
+      → found ≡ (gates_outcome (check None ∷ check stop ∷ reporting shown) Done).status
+      → Leaves old (gates_outcome (check None ∷ check stop ∷ reporting shown) Done).output (before_line new err)
       → Decides (first_stop (check None ∷ check stop ∷ [])) (IsReportDue old view p status new) status
   by_sort (Some stop) shown refuses shows is leaves = refused old new err found status stop line refuses is
   by_sort None shown refuses shows is leaves = due_if shown shows is leaves
 
-by_read : (old new : Outside) (err : Stream) (view : View) (found : Result Contents ReadFault) (shown : Option Shown)
+by_read : (old new : Outside) (err : Stream) (view : View) (found : Result Contents ReadFault) (shown : Option ReportOutcome)
     (before status : Status)
     → Line old new err before status
     → IfSome shown (λ s. IfOk found (λ p. IsShown old view p (before_line new err) s))
-    → before ≡ (passed (annotating view found shown) Done).status
-    → Leaves old (passed (annotating view found shown) Done).output (before_line new err)
+    → before ≡ (gates_outcome (annotating view found shown) Done).status
+    → Leaves old (gates_outcome (annotating view found shown) Done).output (before_line new err)
     → Decides (first_stop (check (read_fault found) ∷ check (sort_fault view.sort found) ∷ []))
     (IfOk found (λ p. IsReportDue old view p status new)) status
 by_read old new err view (Ok p) shown before status line shows is leaves =
@@ -237,7 +237,7 @@ certain_report old new err files names view found status work says told calm kno
           (λ none.
           wanting old new err found status line
           (work.status_is
-          ∙ ap (λ (f : Result Contents ReadFault). (passed (annotating view f work.shown) Done).status) none));
-      decides = by_read old new err view work.found work.shown found status line work.met.report work.status_is
+          ∙ ap (λ (f : Result Contents ReadFault). (gates_outcome (annotating view f work.report) Done).status) none));
+      decides = by_read old new err view work.found work.report found status line work.met.report work.status_is
           work.leaves;
     }

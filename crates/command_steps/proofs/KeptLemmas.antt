@@ -20,7 +20,7 @@ use Rattle.profile_files.specs.Joined.{Joins, no_rows}
 use Rattle.outside.specs.Load.{Load, bytes_of}
 use Rattle.profile_files.specs.Reading.{IsReading, events_fault, events_of, file_fault, format_fault, load_fault}
 use Rattle.profile_files.specs.Reading.{reading_fault}
-use Rattle.profile_files.specs.Wanted.{Wanted}
+use Rattle.profile_files.specs.WantedFile.{WantedFile}
 use Rattle.profile_files.specs.declared.fault.ReadFault.TheVariants.{EventsDiffer}
 use Rattle.profile_files.proofs.ReadingLemmas.{events_read}
 use Rattle.command_steps.specs.ReportStages.{HasEvents}
@@ -50,7 +50,7 @@ in_longer xs ys event agrees has =
         (Contains-append_left xs (drop (length xs) ys) event has)
 
 -- a file without a fault has events that agree
-agrees : (wanted : Wanted) (before : List (List ℕ)) (found : Load) → file_fault wanted before found ≡ None
+agrees : (wanted : WantedFile) (before : List (List ℕ)) (found : Load) → file_fault wanted before found ≡ None
     → agree before (events_of (bytes_of found)) ≡ true
 agrees wanted before found none =
     let behind = neither (load_fault wanted.name found) _ none in
@@ -62,7 +62,7 @@ agrees wanted before found none =
     by true is = refl
     by false is = absurd (cc)
 
-keeps : (first : Contents) (files : List Wanted) (loads : List Load) (joined : Contents) (event : List ℕ)
+keeps : (first : Contents) (files : List WantedFile) (loads : List Load) (joined : Contents) (event : List ℕ)
     → reading_fault first.events files loads ≡ None → length loads ≡ length files
     → Joins first (map bytes_of loads) joined → Contains first.events event → Contains joined.events event
 keeps first [] [] joined event none many joins has = subst (λ (p : Contents). Contains p.events event) (sym joins) has
@@ -114,7 +114,7 @@ events_apart branches names is =
     (apart_names (events_shown branches event_names) (distinct branches))
 
 -- there are events
-pub own_named : (told : Option Files) (before now : ℕ) (branches : Bool) (files : List Wanted) (joined : Contents)
+pub own_named : (told : Option Files) (before now : ℕ) (branches : Bool) (files : List WantedFile) (joined : Contents)
     → IsReading told before now (no_rows (events_shown branches event_names)) files (Ok joined)
     → 0 < length joined.events
 own_named told before now branches files joined reading =
@@ -122,7 +122,7 @@ own_named told before now branches files joined reading =
     reading.answers.2
 
 -- and those of a run are among them
-pub own_events : (told : Option Files) (before now : ℕ) (branches : Bool) (files : List Wanted) (joined : Contents)
+pub own_events : (told : Option Files) (before now : ℕ) (branches : Bool) (files : List WantedFile) (joined : Contents)
     → IsReading told before now (no_rows (events_shown branches event_names)) files (Ok joined)
     → HasEvents (events_shown branches event_names) joined
 own_events told before now branches files joined reading event is =

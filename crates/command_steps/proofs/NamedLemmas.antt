@@ -20,7 +20,7 @@ use Rattle.cg_lines.specs.declared.fault.Fault.TheVariants.{BadLine}
 use Rattle.profile_files.specs.Joined.{Joins, no_rows}
 use Rattle.outside.specs.Load.{Load, bytes_of}
 use Rattle.profile_files.specs.Reading.{IsReading}
-use Rattle.profile_files.specs.Wanted.{Wanted, with_limit}
+use Rattle.profile_files.specs.WantedFile.{WantedFile, with_limit}
 use Rattle.command_steps.specs.Annotate.{profile_limit}
 
 -- ---- what holds where there is no fault
@@ -112,10 +112,10 @@ joined_named first bytes files joined (read, next, reads, joins, rest) =
     (subst (λ names. 0 < length names) (sym joins.events)
     (let least = (at_least first.events read.events).1 in omega (arith, least, some))) rest
 
-pub named : (told : Option Files) (before now : ℕ) (files : List Wanted) (joined : Contents) → 0 < length files
+pub events_have_names : (told : Option Files) (before now : ℕ) (files : List WantedFile) (joined : Contents) → 0 < length files
     → IsReading told before now (no_rows []) files (Ok joined)
     → 0 < length joined.events
-named told before now files joined some reading = by reading.loads reading.answers.1 reading.answers.2
+events_have_names told before now files joined some reading = by reading.loads reading.answers.1 reading.answers.2
   where
     by : (loads : List Load) → length loads ≡ length files → Joins (no_rows []) (map bytes_of loads) joined
         → 0 < length joined.events
@@ -123,7 +123,7 @@ named told before now files joined some reading = by reading.loads reading.answe
     by (found ∷ loads) many joins = joined_named (no_rows []) (bytes_of found) (map bytes_of loads) joined joins
 
 -- as many files as names
-pub some_wanted : (names : List (Bor (List ℕ))) (files : List Wanted) → 0 < length names
+pub some_wanted : (names : List (Bor (List ℕ))) (files : List WantedFile) → 0 < length names
     → files ≡ map (with_limit profile_limit) (map (λ name. name.now) names)
     → 0 < length files
 some_wanted [] files some is = absurd (omega (arith, some))

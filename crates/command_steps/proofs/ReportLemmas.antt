@@ -10,7 +10,7 @@ use Rattle.outside.specs.declared.sink.WriteError.{WriteError}
 use Rattle.outside.specs.declared.sink.WriteError.TheVariants as write
 use Rattle.cg_read.specs.Profiles.{Contents}
 use Rattle.profile_files.specs.Joined.{no_rows}
-use Rattle.profile_files.specs.Wanted.{Wanted, with_limit}
+use Rattle.profile_files.specs.WantedFile.{WantedFile, with_limit}
 use Rattle.profile_files.specs.declared.fault.ReadFault.TheVariants as read
 use Rattle.profile_files.proofs.ReadingLemmas.{IsReading-wanting, IsReading-within}
 use Rattle.annotate.specs.Report.{SourceTexts}
@@ -20,11 +20,11 @@ use Rattle.source_files.specs.Sources.{AreSources}
 use Rattle.source_files.proofs.SourceLemmas.{AreSources-within}
 use Rattle.command_status.specs.declared.status.Status.{Status}
 use Rattle.command_status.specs.declared.status.Status.TheVariants as wanted
-use Rattle.command_words.specs.Asked.{View}
+use Rattle.command_words.specs.Request.{View}
 use Rattle.command_steps.specs.Annotate.{AreTextsFor, AreTextsOf, IsMade, IsShown, IsSortPlace, IsTaken, annotating}
 use Rattle.command_steps.specs.Annotate.{MakesReport, SettlesOptions, profile_limit, report_options, reporting}
-use Rattle.command_steps.specs.Annotate.{Annotates, Shown, sort_fault, text_of}
-use Rattle.command_steps.specs.Gates.{Outcome, check, passed}
+use Rattle.command_steps.specs.Annotate.{Annotates, ReportOutcome, sort_fault, text_of}
+use Rattle.command_steps.specs.Gates.{Outcome, check, gates_outcome}
 use Rattle.command_steps.specs.ReportStages.{ReadsFiles, ShowsReport, report_status}
 use Rattle.command_steps.specs.inner.ReportStages.{WritesReport}
 use Rattle.command_steps.proofs.OutsideLemmas.{Leaves-and_nothing, Leaves-earlier, Leaves-out}
@@ -34,11 +34,11 @@ use Rattle.byte_text.specs.Memory.{memory}
 
 -- it is not come to
 not_shown : (old new : Outside) (view : View) (p : Contents) (status : Status)
-    → ((last : Status) → passed (check (sort_fault view.sort (Ok p)) ∷ reporting None) last
+    → ((last : Status) → gates_outcome (check (sort_fault view.sort (Ok p)) ∷ reporting None) last
     ≡ record { status = status; output = nothing })
     → new.files ≡ old.files → Leaves old nothing new → ShowsReport old view p (Err status) new
 not_shown old new view p status comes same leaves = record {
-  shown = None;
+  report = None;
   output = nothing;
   is = tt;
   comes = comes;
@@ -54,7 +54,7 @@ pub ShowsReport-unsettled : (old new : Outside) (view : View) (p : Contents) (st
     → ShowsReport old view p (Err status) new
 ShowsReport-unsettled old new view p status stop same leaves =
     not_shown old new view p status
-    (λ last. ap (λ s. passed (check s ∷ check (Some (wanted.OutOfMemory memory)) ∷ []) last) stop) same leaves
+    (λ last. ap (λ s. gates_outcome (check s ∷ check (Some (wanted.OutOfMemory memory)) ∷ []) last) stop) same leaves
 
 -- memory was wanting for the source texts
 pub ShowsReport-wanting : (old new : Outside) (view : View) (p : Contents) (options : ReportOptions)
@@ -62,7 +62,7 @@ pub ShowsReport-wanting : (old new : Outside) (view : View) (p : Contents) (opti
     → ShowsReport old view p (Err (wanted.OutOfMemory memory)) new
 ShowsReport-wanting old new view p options settled same leaves =
     not_shown old new view p (wanted.OutOfMemory memory)
-    (λ last. ap (λ s. passed (check s ∷ check (Some (wanted.OutOfMemory memory)) ∷ []) last) settled.0) same leaves
+    (λ last. ap (λ s. gates_outcome (check s ∷ check (Some (wanted.OutOfMemory memory)) ∷ []) last) settled.0) same leaves
 
 -- What is known once the options were settled and the source texts loaded.
 pub record Known (old new : Outside) (view : View) (p : Contents) (options : ReportOptions)
@@ -87,17 +87,17 @@ settles : (p : Contents) (options settled : ReportOptions) (texts : SourceTexts)
 settles p options settled texts report is made = subst (λ o. IsMade p o texts report) is made
 
 -- a report, made or not, and written or not
-shows : (old new : Outside) (view : View) (p : Contents) (options : ReportOptions) (shown : Shown)
+shows : (old new : Outside) (view : View) (p : Contents) (options : ReportOptions) (shown : ReportOutcome)
     (result : Result (Unit {0}) Status) (output : Output)
     → Known old new view p options shown.texts → shown.sort ≡ options.sort
     → IsMade p options shown.texts shown.report
     → IsTaken (text_of shown.report) old.out.faults new.out.faults shown.count shown.written
-    → ((last : Status) → passed (reporting (Some shown)) last
+    → ((last : Status) → gates_outcome (reporting (Some shown)) last
     ≡ record { status = report_status last result; output = output })
     → output.files ≡ [] → output.refused ≡ None → Leaves old output new
     → ShowsReport old view p result new
 shows old new view p options shown result output known place made_so taken comes puts refused leaves = record {
-  shown = Some shown;
+  report = Some shown;
   output = output;
   is = record {
     sort = subst (λ n. IsSortPlace view.sort p n) (sym place) known.settled.1;
@@ -107,7 +107,7 @@ shows old new view p options shown result output known place made_so taken comes
     written = taken;
   };
   comes = λ last.
-      ap (λ s. passed (check s ∷ reporting (Some shown)) last) known.settled.0 ∙ comes last;
+      ap (λ s. gates_outcome (check s ∷ reporting (Some shown)) last) known.settled.0 ∙ comes last;
   puts = puts;
   refused = refused;
   same_files = known.same_files;
@@ -117,7 +117,7 @@ shows old new view p options shown result output known place made_so taken comes
 -- the outcome of a report whose making, or whose writing, stops so
 abbrev pub stopping : Option Status → Option Status → List ℕ → Status → Outcome
 stopping unmade unwritten taken last =
-    passed (check unmade ∷ record { stops = unwritten; output = record nothing { out = taken } } ∷ []) last
+    gates_outcome (check unmade ∷ record { stops = unwritten; output = record nothing { out = taken } } ∷ []) last
 
 -- it was not made
 pub ShowsReport-unmade : (old new : Outside) (view : View) (p : Contents) (options : ReportOptions)
@@ -125,11 +125,11 @@ pub ShowsReport-unmade : (old new : Outside) (view : View) (p : Contents) (optio
     → Known old new view p options texts → MakesReport p options texts (Err status) → Leaves old nothing new
     → ShowsReport old view p (Err status) new
 ShowsReport-unmade old new view p options texts status known (error, is, stop) leaves =
-    let shown : Shown = record { sort = options.sort; texts = texts; report = Err error; written = Ok tt; count = 0 } in
+    let shown : ReportOutcome = record { sort = options.sort; texts = texts; report = Err error; written = Ok tt; count = 0 } in
     shows old new view p options shown (Err status) nothing known refl is refl
     (λ last. ap (λ s. stopping s None (take 0 []) last) stop) refl refl leaves
 
-abbrev shown_with : ReportOptions → SourceTexts → List ℕ → Result (Unit {0}) WriteError → ℕ → Shown
+abbrev shown_with : ReportOptions → SourceTexts → List ℕ → Result (Unit {0}) WriteError → ℕ → ReportOutcome
 shown_with options texts text written count =
     record { sort = options.sort; texts = texts; report = Ok text; written = written; count = count }
 
@@ -169,7 +169,7 @@ ShowsReport-stopped old new view p stop (Err status) is shows =
 -- ---- the files of `annotate`
 
 -- the files were not read for want of memory
-pub ReadsFiles-wanting : (told : Option Files) (before now : ℕ) (events : List (List ℕ)) (files : List Wanted)
+pub ReadsFiles-wanting : (told : Option Files) (before now : ℕ) (events : List (List ℕ)) (files : List WantedFile)
     (result : Result Contents Status)
     → IsErrAnd result (λ status. status ≡ (wanted.OutOfMemory memory)) → ReadsFiles told before now events files result
 ReadsFiles-wanting told before now events files (Ok p) none = absurd none
@@ -177,7 +177,7 @@ ReadsFiles-wanting told before now events files (Err status) is =
     ((read.OutOfMemory memory), IsReading-wanting told before now (no_rows events) files (read.OutOfMemory memory) refl, is)
 
 -- the files of these names
-abbrev files_of : List (List ℕ) → List Wanted
+abbrev files_of : List (List ℕ) → List WantedFile
 files_of names = map (with_limit profile_limit) names
 
 -- they were not read
@@ -185,17 +185,17 @@ pub Annotates-unread : (old new : Outside) (names : List (List ℕ)) (view : Vie
     → ReadsFiles old.files old.load_faults new.load_faults [] (files_of names) (Err status) → Leaves old nothing new
     → Annotates old names view status new
 Annotates-unread old new names view status (fault, reading, is) leaves =
-    let comes : passed (annotating view (Err fault) None) wanted.Done ≡ record { status = status; output = nothing }
+    let comes : gates_outcome (annotating view (Err fault) None) wanted.Done ≡ record { status = status; output = nothing }
     = ap (λ s. let o : Outcome = record { status = s; output = nothing } in o) (sym is) in record {
       found = Err fault;
-      shown = None;
+      report = None;
       met = record { reading = reading; report = tt };
       status_is = sym (ap (λ o. o.status) comes);
       leaves = subst (λ (o : Outcome). Leaves old o.output new) (sym comes) leaves;
     }
 
 -- the report that was made later, seen from the outside before the files were loaded
-pub shown_within : (old mid new : Outside) (view : View) (p : Contents) (shown : Option Shown)
+pub shown_within : (old mid new : Outside) (view : View) (p : Contents) (shown : Option ReportOutcome)
     → mid.files ≡ old.files → old.load_faults ≤ mid.load_faults → mid.out.faults ≡ old.out.faults
     → IfSome shown (IsShown mid view p new) → IfSome shown (IsShown old view p new)
 shown_within old mid new view p None same early out is = tt
@@ -217,12 +217,12 @@ pub Annotates-shown : (old mid new : Outside) (names : List (List ℕ)) (view : 
 Annotates-shown old mid new names view p result reading same early late out err shows =
     let comes = shows.comes wanted.Done in record {
       found = Ok p;
-      shown = shows.shown;
+      report = shows.report;
       met = record {
         reading = IsReading-within old.files old.load_faults old.load_faults mid.load_faults
             new.load_faults (no_rows [])
             (files_of names) (Ok p) (omega arith) late reading;
-        report = shown_within old mid new view p shows.shown same early (ap (λ (s : Stream). s.faults) out) shows.is;
+        report = shown_within old mid new view p shows.report same early (ap (λ (s : Stream). s.faults) out) shows.is;
       };
       status_is = sym (ap (λ o. o.status) comes);
       leaves = subst (λ (o : Outcome). Leaves old o.output new) (sym comes)

@@ -3,10 +3,10 @@ use Rattle.std.proofs.Common.{◌≡◌, ℕ, List, [], ◌∷◌, Option, None,
 use Rattle.std.specs.Result.{IsErrAnd}
 use Rattle.outside.specs.Load.{Load}
 use Rattle.outside.specs.Outside.{Log, Outside, Stream, Tells, done_then, nothing_done}
-use Rattle.outside.specs.Told.{Call, Loaded, TellsMore, Wrote}
+use Rattle.outside.specs.Journal.{Call, Loaded, TellsMore, Wrote}
 use Rattle.command_status.specs.declared.status.Status.TheVariants.{Done}
 use Rattle.command_steps.specs.ReportStages.{reported}
-use Rattle.outside.proofs.ToldLemmas as told
+use Rattle.outside.proofs.JournalLemmas as told
 use Rattle.command_status.specs.declared.status.Status.{Status}
 use Rattle.command_steps.specs.Loading.{HasStatus, load_fault}
 use Rattle.command_steps.specs.Stages.{Did, Gives, Goes, Loads, LoadsIf, Quiet, Stops, Then, asking, writing}

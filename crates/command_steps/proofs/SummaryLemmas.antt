@@ -21,7 +21,7 @@ use Rattle.byte_text.specs.Memory.{memory}
 ShowsSummary-none : (old new : Outside) (f : Figures) (p : Contents) (status : Status) → status ≡ wanted.OutOfMemory memory
     → new.files ≡ old.files → Leaves old nothing new → ShowsSummary old f p (Err status) new
 ShowsSummary-none old new f p status is same leaves = record {
-  summed = None;
+  summary = None;
   output = nothing;
   is = tt;
   comes = λ last. ap (λ s. let o : Outcome = record { status = s; output = nothing } in o) (sym is);
@@ -41,7 +41,7 @@ pub ShowsSummary-unmade : (old new : Outside) (f : Figures) (p : Contents) (stat
     → MakesTotals p (Err status) → new.files ≡ old.files → Leaves old nothing new
     → ShowsSummary old f p (Err status) new
 ShowsSummary-unmade old new f p status (error, are, stop) same leaves = record {
-  summed = Some (record { totals = Err error; written = Ok tt; count = 0 });
+  summary = Some (record { totals = Err error; written = Ok tt; count = 0 });
   output = nothing;
   is = record { totals = are; written = refl };
   comes = λ last. ap (λ s. stopping s None (take 0 []) last) stop;
@@ -65,7 +65,7 @@ ShowsSummary-made old new f p totals text result are is same err out =
         → ShowsSummary old f p result new
     by (Ok done) out =
         let output : Output = record nothing { out = take (length (summary f totals)) (summary f totals) } in record {
-          summed = Some (record { totals = Ok totals; written = Ok tt; count = length (summary f totals) });
+          summary = Some (record { totals = Ok totals; written = Ok tt; count = length (summary f totals) });
           output = and_then output nothing;
           is = record { totals = are; written = refl };
           comes = λ last. refl;
@@ -77,7 +77,7 @@ ShowsSummary-made old new f p totals text result are is same err out =
               (out ∙ ap (taken_more old.out.taken) (sym (take-length (summary f totals)))));
         }
     by (Err status) (write.Failed, (stop, out)) = record {
-      summed = Some (record { totals = Ok totals; written = Err write.Failed; count = out.1.0 });
+      summary = Some (record { totals = Ok totals; written = Err write.Failed; count = out.1.0 });
       output = record nothing { out = take out.1.0 (summary f totals) };
       is = record { totals = are; written = (out.0, out.1.1) };
       comes = λ last. ap (λ s. stopping None s (take out.1.0 (summary f totals)) last) stop;
@@ -87,7 +87,7 @@ ShowsSummary-made old new f p totals text result are is same err out =
       leaves = Leaves-out old new (take out.1.0 (summary f totals)) same err out.1.2;
     }
     by (Err status) ((write.OutOfMemory _), (stop, out)) = record {
-      summed = Some (record { totals = Ok totals; written = Err (write.OutOfMemory memory); count = out.0 });
+      summary = Some (record { totals = Ok totals; written = Err (write.OutOfMemory memory); count = out.0 });
       output = record nothing { out = take out.0 (summary f totals) };
       is = record { totals = are; written = out.1 };
       comes = λ last. ap (λ s. stopping None s (take out.0 (summary f totals)) last) stop;

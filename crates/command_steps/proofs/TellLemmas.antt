@@ -5,13 +5,13 @@ use Rattle.std.specs.Result.{IsErrAnd}
 use Rattle.byte_text.specs.Memory.{memory}
 use Rattle.byte_text.specs.declared.memory.OutOfMemory.{OutOfMemory as Wanting}
 use Rattle.outside.specs.Outside.{Log, Outside, Stream, nothing_done}
-use Rattle.outside.specs.Told.{TellsMore, TellsWrites, Wrote}
+use Rattle.outside.specs.Journal.{TellsMore, TellsWrites, Wrote}
 use Rattle.outside.specs.declared.folder.LoadError.TheVariants as load
 use Rattle.outside.specs.declared.sink.WriteError.{WriteError}
 use Rattle.outside.specs.declared.sink.WriteError.TheVariants as write
 use Rattle.cg_read.specs.Profiles.{Contents, IsProfile}
 use Rattle.profile_files.specs.Calls.{Reads, TellsReading}
-use Rattle.profile_files.specs.Wanted.{Wanted}
+use Rattle.profile_files.specs.WantedFile.{WantedFile}
 use Rattle.profile_files.specs.declared.fault.ReadFault.{ReadFault}
 use Rattle.profile_files.specs.declared.fault.ReadFault.TheVariants as read
 use Rattle.annotate.specs.Files.{AreFilesShown}
@@ -32,7 +32,7 @@ use Rattle.command_steps.proofs.StageLemmas.{did_exit, did_quietly, nothing_told
 -- ---- profiles are read
 
 -- what was asked of the folder
-pub did_read : (old new : Outside) (first : Contents) (files : List Wanted) (found : Result Contents ReadFault)
+pub did_read : (old new : Outside) (first : Contents) (files : List WantedFile) (found : Result Contents ReadFault)
     (result : Result Contents Status) → TellsReading first files found old.calls new.calls → IfOk found IsProfile
     → new.out ≡ old.out → new.err ≡ old.err → result ≡ read_as found → Did (ReadsAll first files) old result new
 did_read old new first files found result (calls, reads, told) profile out err is = record {
@@ -49,7 +49,7 @@ did_read old new first files found result (calls, reads, told) profile out err i
 }
 
 -- the same, as its files and events are handed on
-pub did_read_of : (old new : Outside) (first handed : Contents) (files given : List Wanted)
+pub did_read_of : (old new : Outside) (first handed : Contents) (files given : List WantedFile)
     (found : Result Contents ReadFault) (result : Result Contents Status) → handed ≡ first → given ≡ files
     → TellsReading handed given found old.calls new.calls → IfOk found IsProfile → new.out ≡ old.out
     → new.err ≡ old.err → result ≡ read_as found → Did (ReadsAll first files) old result new
@@ -59,7 +59,7 @@ did_read_of old new first handed files given found result same are told profile 
     (subst (λ fs. TellsReading handed fs found old.calls new.calls) are told)) profile out err is
 
 -- memory was wanting before it
-none_read : (first : Contents) (files : List Wanted) → Reads first files [] (Err (read.OutOfMemory memory))
+none_read : (first : Contents) (files : List WantedFile) → Reads first files [] (Err (read.OutOfMemory memory))
 none_read first [] = (refl, inr refl)
 none_read first (wanted ∷ files) = inl (record {
   found = Err (load.OutOfMemory memory);
@@ -69,7 +69,7 @@ none_read first (wanted ∷ files) = inl (record {
   result_is = refl;
 })
 
-pub did_not_read : (old : Outside) (first : Contents) (files : List Wanted) (result : Result Contents Status)
+pub did_not_read : (old : Outside) (first : Contents) (files : List WantedFile) (result : Result Contents Status)
     → IsErrAnd result (λ s. s ≡ OutOfMemory memory) → Did (ReadsAll first files) old result old
 did_not_read old first files result wants =
     did_exit old old (OutOfMemory memory) result wants
@@ -105,7 +105,7 @@ did_texts old new asked p names result is shown told loaded out err =
         inr (record {
           texts = texts;
           rest = rest;
-          shown = subst (AreFilesShown p) are shown;
+          files = subst (AreFilesShown p) are shown;
           last = last;
           unloaded = unloaded;
           log_is = refl;
@@ -168,7 +168,7 @@ unsaid_line found told = record {
   answer = Err (write.OutOfMemory memory);
   writes = inr (refl, refl);
   status_is = refl;
-  told = nothing_told told;
+  tells = nothing_told told;
 }
 
 -- one that was written, or not
@@ -176,4 +176,4 @@ pub said_line : (found status : Status) (old new : Option (List Wrote)) (answer 
     → TellsWrites old (message_of found) answer new → status ≡ after_line found answer
     → TellsLine found old status new
 said_line found status old new answer (line, writes, told) is =
-    record { line = line; answer = answer; writes = inl writes; status_is = is; told = told }
+    record { line = line; answer = answer; writes = inl writes; status_is = is; tells = told }

@@ -20,18 +20,18 @@ use Rattle.report_rows.specs.declared.options.Tree.{Tree}
 use Rattle.report_rows.specs.declared.options.Tree.TheVariants as tree
 use Rattle.profile_files.specs.Joined.{no_rows}
 use Rattle.profile_files.specs.Reading.{IsReading}
-use Rattle.profile_files.specs.Wanted.{with_limit}
+use Rattle.profile_files.specs.WantedFile.{with_limit}
 use Rattle.source_files.specs.Sources.{AreSources}
 use Rattle.command_status.specs.declared.status.Status.{Status}
 use Rattle.command_status.specs.declared.status.Status.TheVariants.{Done, Usage, LoadFault, TooLong, FormatRefused}
 use Rattle.command_status.specs.declared.status.Status.TheVariants.{EventsDiffer, SumLimit, OutFault, OutOfMemory}
-use Rattle.command_words.specs.Asked.{View}
-use Rattle.command_words.specs.Asked as view
-use Rattle.command_steps.specs.Gates.{Gate, check, passed}
+use Rattle.command_words.specs.Request.{View}
+use Rattle.command_words.specs.Request as view
+use Rattle.command_steps.specs.Gates.{Gate, check, gates_outcome}
 
 -- A report: the place of the event that it is sorted by, the source texts that were loaded for it, its text, how
 -- writing that went, and how many of its bytes were taken.
-pub record Shown : Type 0 where
+pub record ReportOutcome : Type 0 where
   pub sort : ℕ
   pub texts : SourceTexts
   pub report : Result (List ℕ) ReportError
@@ -76,7 +76,7 @@ text_of (Ok text) = text
 text_of (Err error) = []
 
 -- the report is made and written; where the work didn't come to it, memory was wanting
-abbrev pub reporting : Option Shown → List Gate
+abbrev pub reporting : Option ReportOutcome → List Gate
 reporting None = check (Some (OutOfMemory memory)) ∷ []
 reporting (Some shown) =
     check (report_fault shown.report)
@@ -87,7 +87,7 @@ reporting (Some shown) =
     ∷ []
 
 -- The files are read and joined, the event to sort by is looked up, and the report is made and written.
-abbrev pub annotating : View → Result Contents ReadFault → Option Shown → List Gate
+abbrev pub annotating : View → Result Contents ReadFault → Option ReportOutcome → List Gate
 annotating view found shown = check (read_fault found) ∷ check (sort_fault view.sort found) ∷ reporting shown
 
 -- ---- what is so of it
@@ -145,7 +145,7 @@ IsTaken bytes before now count (Ok _) = count ≡ length bytes
 IsTaken bytes before now count (Err write.Failed) = Rose before now × (count < length bytes)
 IsTaken bytes before now count (Err (write.OutOfMemory _)) = count < length bytes
 
-pub record IsShown (old : Outside) (view : View) (p : Contents) (new : Outside) (shown : Shown) : Type 0 where
+pub record IsShown (old : Outside) (view : View) (p : Contents) (new : Outside) (shown : ReportOutcome) : Type 0 where
   pub sort : IsSortPlace view.sort p shown.sort
   pub texts : AreTextsOf old view p new shown.texts
   pub report : IsMade p (report_options view shown.sort) shown.texts shown.report
@@ -153,7 +153,7 @@ pub record IsShown (old : Outside) (view : View) (p : Contents) (new : Outside) 
 
 -- The files may read as this, and the report may go so.
 pub record IsAnnotated (old : Outside) (names : List (List ℕ)) (view : View) (found : Result Contents ReadFault)
-    (shown : Option Shown) (new : Outside) : Type 0 where
+    (shown : Option ReportOutcome) (new : Outside) : Type 0 where
   pub reading : IsReading old.files old.load_faults new.load_faults (no_rows [])
       (map (with_limit profile_limit) names) found
   pub report : IfSome shown (λ s. IfOk found (λ p. IsShown old view p new s))
@@ -162,7 +162,7 @@ pub record IsAnnotated (old : Outside) (names : List (List ℕ)) (view : View) (
 pub record Annotates (old : Outside) (names : List (List ℕ)) (view : View) (status : Status)
     (new : Outside) : Type 0 where
   pub found : Result Contents ReadFault
-  pub shown : Option Shown
-  pub met : IsAnnotated old names view found shown new
-  pub status_is : status ≡ (passed (annotating view found shown) Done).status
-  pub leaves : Leaves old (passed (annotating view found shown) Done).output new
+  pub report : Option ReportOutcome
+  pub met : IsAnnotated old names view found report new
+  pub status_is : status ≡ (gates_outcome (annotating view found report) Done).status
+  pub leaves : Leaves old (gates_outcome (annotating view found report) Done).output new

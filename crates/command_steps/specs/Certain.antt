@@ -5,14 +5,14 @@ use Rattle.outside.specs.Outside.{Leaves, Outside, nothing}
 use Rattle.cg_read.specs.Profiles.{Contents}
 use Rattle.cycles.specs.Limits.{AreAllWithin, IsFirstOver}
 use Rattle.profile_files.specs.Joined.{no_rows}
-use Rattle.profile_files.specs.Loads.{held_loads}
+use Rattle.profile_files.specs.Loads.{faultless_loads}
 use Rattle.profile_files.specs.Reading.{Answers}
-use Rattle.profile_files.specs.Wanted.{with_limit}
+use Rattle.profile_files.specs.WantedFile.{with_limit}
 use Rattle.profile_files.specs.declared.fault.ReadFault.{ReadFault}
 use Rattle.annotate.specs.Report.{IsReportOf, SourceTexts}
 use Rattle.command_status.specs.declared.status.Status.{Status}
 use Rattle.command_status.specs.declared.status.Status.TheVariants.{Done, SumLimit}
-use Rattle.command_words.specs.Asked.{View}
+use Rattle.command_words.specs.Request.{View}
 use Rattle.command_steps.specs.Annotate.{AreTextsOf, IsSortPlace, profile_limit, report_options, read_fault}
 use Rattle.command_steps.specs.Annotate.{sort_fault}
 use Rattle.command_steps.specs.Gates.{check, first_stop}
@@ -41,7 +41,7 @@ pub record ReportsWhole (old : Outside) (view : View) (p : Contents) (status : S
 
 -- The first sum that is too large stops the report, and else it is written, where no write failed.
 pub record IsReportDue (old : Outside) (view : View) (p : Contents) (status : Status) (new : Outside) : Type 0 where
-  pub over : (position : ℕ) → IsFirstOver p position → status ≡ SumLimit position
+  pub too_large : (position : ℕ) → IsFirstOver p position → status ≡ SumLimit position
   pub within : AreAllWithin p → IsCalm old new → ReportsWhole old view p status new
 
 -- What the files of these names read as, from what the folder holds: they can't be read and joined, or the event to
@@ -50,6 +50,6 @@ pub record IsCertainReport (old : Outside) (files : Files) (names : List (List �
     (new : Outside) : Type 0 where
   pub found : Result Contents ReadFault
   pub answers : Answers (no_rows []) (map (with_limit profile_limit) names)
-      (held_loads files (map (with_limit profile_limit) names)) found
+      (faultless_loads files (map (with_limit profile_limit) names)) found
   pub decides : Decides (first_stop (check (read_fault found) ∷ check (sort_fault view.sort found) ∷ []))
       (IfOk found (λ p. IsReportDue old view p status new)) status

@@ -27,12 +27,12 @@ at_gate (Some status) output after = record { status = status; output = output }
 at_gate None output after = record { status = after.status; output = and_then output after.output }
 
 -- The first gate that stops gives the status. What all gates up to it put out is put out, and nothing after it.
-abbrev pub passed : List Gate → Status → Outcome
-passed [] last = record { status = last; output = nothing }
-passed (gate ∷ gates) last = at_gate gate.stops gate.output (passed gates last)
+abbrev pub gates_outcome : List Gate → Status → Outcome
+gates_outcome [] last = record { status = last; output = nothing }
+gates_outcome (gate ∷ gates) last = at_gate gate.stops gate.output (gates_outcome gates last)
 
 abbrev pub outcome : Work → Outcome
-outcome work = passed work.gates work.last
+outcome work = gates_outcome work.gates work.last
 
 -- the status of the first gate that stops
 abbrev pub or_next : Option Status → Option Status → Option Status

@@ -9,7 +9,7 @@ use Rattle.command_status.specs.declared.status.Status.{Status}
 use Rattle.command_status.specs.declared.status.Status.TheVariants.{OutFault, OutOfMemory}
 use Rattle.command_status.specs.Numbers.{is_finished}
 use Rattle.byte_text.specs.Memory.{memory}
-use Rattle.outside.specs.Told.{TellsMore, Wrote}
+use Rattle.outside.specs.Journal.{TellsMore, Wrote}
 use Rattle.command_steps.specs.Stages.{AreWritesOrWants}
 
 -- A line that can't be written is a fault of its own only where there was no refusal before. Want of memory always is.
@@ -32,4 +32,4 @@ pub record TellsLine (found : Status) (old : Option (List Wrote)) (status : Stat
     pub answer : Result (Unit {0}) WriteError
     pub writes : AreWritesOrWants (message_of found) line answer
     pub status_is : status ≡ after_line found answer
-    pub told : TellsMore old line new
+    pub tells : TellsMore old line new

@@ -4,19 +4,19 @@ use Rattle.std.specs.Prelude.{◌≡◌, ◌⊎◌, ℕ, ◌++◌, Bool, true, f
 use Rattle.std.specs.Prelude.{Result, Ok, Err}
 use Rattle.outside.specs.Load.{Load}
 use Rattle.outside.specs.Outside.{Log, Outside, Tells, done_then, nothing_done}
-use Rattle.outside.specs.Told.{AreWritesOf, Call, Loaded, Wrote}
+use Rattle.outside.specs.Journal.{AreWritesOf, Call, Loaded, Wrote}
 use Rattle.outside.specs.declared.sink.WriteError.{WriteError}
 use Rattle.outside.specs.declared.sink.WriteError.TheVariants as write
 use Rattle.cg_read.specs.Profiles.{Contents, IsProfile}
 use Rattle.profile_files.specs.Calls.{Reads}
-use Rattle.profile_files.specs.Wanted.{Wanted, with_limit}
+use Rattle.profile_files.specs.WantedFile.{WantedFile, with_limit}
 use Rattle.profile_files.specs.declared.fault.ReadFault.{ReadFault}
 use Rattle.annotate.specs.Files.{AreFilesShown}
 use Rattle.annotate.specs.Report.{SourceTexts}
 use Rattle.source_files.specs.Sources.{AreUnloaded, loads_of}
 use Rattle.command_status.specs.declared.status.Status.{Status}
 use Rattle.command_status.specs.declared.status.Status.TheVariants.{OutOfMemory, Done}
-use Rattle.command_words.specs.Asked.{View}
+use Rattle.command_words.specs.Request.{View}
 use Rattle.command_steps.specs.Annotate.{MakesReport, SettlesOptions, read_status, write_fault, profile_limit}
 use Rattle.command_steps.specs.Loading.{HasStatus, input_limit, load_fault}
 use Rattle.byte_text.specs.Memory.{memory}
@@ -82,7 +82,7 @@ read_as (Ok p) = Ok p
 read_as (Err fault) = Err (read_status fault)
 
 -- files are loaded, read and joined, one after another
-pub record ReadsAll (first : Contents) (files : List Wanted) (log : Log) (result : Result Contents Status) : Type 0 where
+pub record ReadsAll (first : Contents) (files : List WantedFile) (log : Log) (result : Result Contents Status) : Type 0 where
   pub calls : List Call
   pub found : Result Contents ReadFault
   pub reads : Reads first files calls found
@@ -95,7 +95,7 @@ pub record ReadsAll (first : Contents) (files : List Wanted) (log : Log) (result
 pub record HasLoadedSome (p : Contents) (log : Log) : Type 0 where
   pub texts : SourceTexts
   pub rest : List (List ℕ)
-  pub shown : AreFilesShown p (map (λ text. text.0) texts ++ rest)
+  pub files : AreFilesShown p (map (λ text. text.0) texts ++ rest)
   pub last : List Call
   pub unloaded : AreUnloaded rest last
   pub log_is : log ≡ asking (loads_of texts ++ last)
@@ -135,9 +135,9 @@ DoesAnnotate names view =
     Gives Done))
 
 -- the status at which the work ended, or with which a stage stopped it
-abbrev pub met : Result Status Status → Status
-met (Ok status) = status
-met (Err status) = status
+abbrev pub final_status : Result Status Status → Status
+final_status (Ok status) = status
+final_status (Err status) = status
 
 -- ---- as it is told
 
@@ -153,4 +153,4 @@ pub record CameTo (Stage : Log → Result Status Status → Type 0) (old : Outsi
     (new : Outside) : Type 0 where
   pub comes : Result Status Status
   pub did : Did Stage old comes new
-  pub status_is : status ≡ met comes
+  pub status_is : status ≡ final_status comes

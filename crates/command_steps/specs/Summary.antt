@@ -12,13 +12,13 @@ use Rattle.cg_read.specs.declared.error.SumError.TheVariants as sum
 use Rattle.command_status.specs.declared.status.Status.{Status}
 use Rattle.command_status.specs.declared.status.Status.TheVariants.{SumLimit, OutOfMemory}
 use Rattle.command_steps.specs.Annotate.{IsTaken, write_fault}
-use Rattle.command_steps.specs.Gates.{Gate, check, passed}
+use Rattle.command_steps.specs.Gates.{Gate, check, gates_outcome}
 use Rattle.command_steps.specs.declared.summary.Figures.{Figures}
 use Rattle.command_steps.specs.Stages.{Quiet, Then, WritesText}
 use Rattle.command_steps.specs.ReportStages.{report_status}
 
 -- The summary of a demonstration: the totals of its parts, how writing it went, and how many of its bytes were taken.
-pub record Summed : Type 0 where
+pub record SummaryOutcome : Type 0 where
   pub totals : Result (List ℕ) SumError
   pub written : Result (Unit {0}) WriteError
   pub count : ℕ
@@ -57,7 +57,7 @@ summary_of f (Ok totals) = summary f totals
 summary_of f (Err error) = []
 
 -- the totals are made, and the summary is written; where the work didn't come to it, memory was wanting
-abbrev pub summing : Figures → Option Summed → List Gate
+abbrev pub summing : Figures → Option SummaryOutcome → List Gate
 summing f None = check (Some (OutOfMemory memory)) ∷ []
 summing f (Some s) =
     check (totals_fault s.totals)
@@ -82,7 +82,7 @@ MakesTotals p (Ok totals) = AreTotals p (Ok totals)
 MakesTotals p (Err status) =
     (error : SumError) × AreTotals p (Err error) × (totals_fault (Err error) ≡ Some status)
 
-pub record IsSummed (old : Outside) (f : Figures) (p : Contents) (new : Outside) (summed : Summed) : Type 0 where
+pub record IsSummed (old : Outside) (f : Figures) (p : Contents) (new : Outside) (summed : SummaryOutcome) : Type 0 where
   pub totals : AreTotals p summed.totals
   pub written : IsTaken (summary_of f summed.totals) old.out.faults new.out.faults summed.count summed.written
 
@@ -93,10 +93,10 @@ WritesSummary figures p = Then (Quiet (MakesTotals p)) (λ totals. WritesText (s
 -- The summary is made and written, or something stops it. Nothing is put.
 pub record ShowsSummary (old : Outside) (f : Figures) (p : Contents) (result : Result (Unit {0}) Status)
     (new : Outside) : Type 0 where
-  pub summed : Option Summed
+  pub summary : Option SummaryOutcome
   pub output : Output
-  pub is : IfSome summed (IsSummed old f p new)
-  pub comes : (last : Status) → passed (summing f summed) last
+  pub is : IfSome summary (IsSummed old f p new)
+  pub comes : (last : Status) → gates_outcome (summing f summary) last
       ≡ record { status = report_status last result; output = output }
   pub puts : output.files ≡ []
   pub refused : output.refused ≡ None

@@ -3,18 +3,18 @@
 ghost use Rattle.std.specs.Prelude.{◌≡◌, ◌≤◌, ◌<◌, IfOk, [], length, map};
 ghost use Rattle.outside.specs.Outside.{Stream, outside_with, stream_of};
 ghost use Rattle.profile_files.specs.Joined.{no_rows};
-ghost use Rattle.profile_files.specs.Wanted.{with_limit};
+ghost use Rattle.profile_files.specs.WantedFile.{with_limit};
 ghost use Rattle.command_status.specs.declared.status.Status.TheVariants.{Done};
-ghost use Rattle.command_words.specs.Requests.{view_of};
+ghost use Rattle.command_words.specs.Meaning.{view_of};
 ghost use Rattle.command_steps.specs.Annotate.{Annotates, profile_limit};
 ghost use Rattle.command_steps.specs.Stages.{CameTo, Did, DoesAnnotate, ReadsAll};
 ghost use Rattle.command_steps.specs.ReportStages.{ReadsFiles, report_status, reported};
 
 use crate::reporting::{read_status, show_report};
+use byte_text::OutOfMemory;
 use cg_read::Profile;
 use command_status::Status;
 use command_words::View;
-use byte_text::OutOfMemory;
 use outside::{FILE_LIMIT, Folder, Sink};
 use profile_files::{WantedFile, read_profiles};
 use std::alloc::Global;

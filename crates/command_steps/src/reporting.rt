@@ -3,8 +3,8 @@
 ghost use Rattle.std.specs.Prelude.{◌≡◌, ◌≤◌, ◌<◌, true, IfOk, length, map, option_map};
 ghost use Rattle.outside.specs.Outside.{Outside, Stream, outside_with, stream_of, with_out};
 ghost use Rattle.annotate.specs.Files.{AreFilesShown};
-ghost use Rattle.command_words.specs.Requests as requests;
-ghost use Rattle.command_words.specs.Requests.{view_of};
+ghost use Rattle.command_words.specs.Meaning as requests;
+ghost use Rattle.command_words.specs.Meaning.{view_of};
 ghost use Rattle.command_steps.specs.Annotate.{AreTextsFor, MakesReport, SettlesOptions, read_status, tree_of};
 ghost use Rattle.command_steps.specs.Stages.{Did, LoadsTexts, Reports, WritesText};
 ghost use Rattle.command_steps.specs.inner.ReportStages.{FindsSort, WritesReport, or_wanting};

@@ -1,7 +1,7 @@
 -- The default geometries are geometries.
 use Rattle.std.proofs.Common.{refl, lit≤}
 use Rattle.cache_lru.specs.Shape.{IsGeometry}
-use Rattle.command_words.specs.Asked.{default_first, default_last}
+use Rattle.command_words.specs.Request.{default_first, default_last}
 
 pub default_first-IsGeometry : IsGeometry default_first
 default_first-IsGeometry = record {

@@ -1,4 +1,4 @@
-pub mod AskedLemmas
+pub mod RequestLemmas
 pub mod GeometryLemmas
 pub mod RowLemmas
 pub mod ValueLemmas

@@ -7,7 +7,7 @@ use Rattle.std.specs.Option.{option_map_or}
 use Rattle.std.specs.Str.{bytes_eq}
 use Rattle.event_costs.specs.Costs.{event_names, events_shown}
 use Rattle.sorted_words.specs.Sorting.{Text, is_among}
-use Rattle.command_words.specs.Asked.{Uses, are_fine, command_named, first, is_fine, says, sort_is_shown}
+use Rattle.command_words.specs.Request.{Uses, are_fine, command_named, first, is_fine, says, sort_is_shown}
 use Rattle.command_words.specs.Rows.{command_of, row_of, takers_of}
 use Rattle.command_words.specs.Table.{Command, Row, includes, name_of, rows_of, table}
 use Rattle.command_words.specs.declared.table.Command as code_command

@@ -10,13 +10,13 @@ use Rattle.std.specs.Str.{bytes_eq}
 use Rattle.std.proofs.lemmas.Map.Views.{Contains-from_any}
 use Rattle.event_costs.specs.Costs.{event_names, events_shown}
 use Rattle.std.proofs.lemmas.Bool.{and_parts, leb-true, lt-ltb, ltb-true}
-use Rattle.sorted_words.specs.Sorting.{Sorted, Syntax, Text, is_among, sorting, uses}
+use Rattle.sorted_words.specs.Sorting.{SortedCommand, Syntax, Text, is_among, sorting, uses}
 use Rattle.sorted_words.proofs.RowLemmas.{same_text}
-use Rattle.command_words.specs.Asked.{Asked, Usage, Uses, are_fine, asked, asked_of, command_named, demo, first}
-use Rattle.command_words.specs.Asked.{has_its_values, is_fine, is_named, job, request, requested, sized_demo}
-use Rattle.command_words.specs.Asked.{Addresses, Nothing, Waits, Watching, by_callers, counts_one, first_small_number}
-use Rattle.command_words.specs.Asked.{own_watching, says, sort_is_shown, view, watching}
-use Rattle.command_words.specs.Asked.{Demo as Asked_Demo}
+use Rattle.command_words.specs.Request.{Request, Usage, Uses, are_fine, read_request, request_of, command_named, demo, first}
+use Rattle.command_words.specs.Request.{has_its_values, is_fine, is_named, job, request, command_request, sized_demo}
+use Rattle.command_words.specs.Request.{Addresses, Nothing, Waits, Watching, by_callers, counts_one, first_small_number}
+use Rattle.command_words.specs.Request.{own_watching, says, sort_is_shown, view, watching}
+use Rattle.command_words.specs.Request.{Demo as Asked_Demo}
 use Rattle.command_words.specs.Table.{Command, AnyText, Number, Row, Run, RunAndReport, Report, Annotate, Demo, Sized}
 use Rattle.command_words.specs.Table.{commands, rows_of, syntax_of}
 use Rattle.command_words.specs.Values.{accepts, is_between, is_numeral, number, number_below, small_number, value_of}
@@ -189,7 +189,7 @@ demo_within (size ∷ other ∷ values) = tt
 
 requested_within : (c : Command) (given : Uses) (values : List Text) → are_fine c given ≡ true
     → has_its_values c given values ≡ true
-    → IsWithin (requested c given values)
+    → IsWithin (command_request c given values)
 requested_within Run given values fine has =
     job_within (watching given) given values (row_is_fine given (rows_of Run) 0 any_row (lit< tt) fine)
     (row_is_fine given (rows_of Run) 1 any_row (lit< tt) fine)
@@ -218,19 +218,19 @@ request_within None given values = tt
 request_within (Some c) given values = go (are_fine c given && has_its_values c given values) refl
   where
     go : (b : Bool) → (are_fine c given && has_its_values c given values) ≡ b
-        → IsWithin (cond b (requested c given values) Usage)
+        → IsWithin (cond b (command_request c given values) Usage)
     go false e = tt
     go true e =
         let parts = and_parts (are_fine c given) (has_its_values c given values) e in
         requested_within c given values parts.0 parts.1
 
-of_sorted : (o : Option (Syntax × Sorted)) → IsWithin (asked_of o)
+of_sorted : (o : Option (Syntax × SortedCommand)) → IsWithin (request_of o)
 of_sorted None = tt
 of_sorted (Some (syntax, sorted)) =
     request_within (command_named syntax.name) (λ name. uses name sorted.options) sorted.values
 
-pub asked_within : (words : List Text) → IsWithin (asked words)
+pub asked_within : (words : List Text) → IsWithin (read_request words)
 asked_within words = of_sorted (sorting (map syntax_of commands) words)
 
-pub within_as : (words : List Text) (a : Asked) → a ≡ asked words → IsWithin a
+pub within_as : (words : List Text) (a : Request) → a ≡ read_request words → IsWithin a
 within_as words a is = subst IsWithin (sym is) (asked_within words)

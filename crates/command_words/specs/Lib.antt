@@ -1,5 +1,5 @@
-pub mod Asked
-pub mod Requests
+pub mod Request
+pub mod Meaning
 pub mod Rows
 pub mod Table
 pub mod Values

@@ -1,8 +1,8 @@
 -- What holds of everything that is asked for.
 use Rattle.std.specs.Prelude.{◌≡◌, ℕ, ◌^◌, ◌≤◌, ◌<◌, Contains, IfSome, length}
 use Rattle.event_costs.specs.Costs.{event_names, events_shown}
-use Rattle.command_words.specs.Asked.{Addresses, Contexts, Nothing, Waits, Watching}
-use Rattle.command_words.specs.Asked.{Asked, Job, View, Run, Report, Annotate, Demo, Usage}
+use Rattle.command_words.specs.Request.{Addresses, Contexts, Nothing, Waits, Watching}
+use Rattle.command_words.specs.Request.{Request, Job, View, Run, Report, Annotate, Demo, Usage}
 
 pub record IsBetween (least most n : ℕ) : Type 0 where
   pub least_of : least ≤ n
@@ -38,7 +38,7 @@ IsOfReport Addresses = Unit {0}
 IsOfReport Waits = ⊥
 IsOfReport (Contexts callers) = ⊥
 
-abbrev pub IsWithin : Asked → Type 0
+abbrev pub IsWithin : Request → Type 0
 IsWithin (Run job) = IsJob job
 IsWithin (Report job view) = IsJob job × IsView view × IsSortShown job view × IsOfReport job.watching
 IsWithin (Annotate files view) = (0 < length files) × IsView view

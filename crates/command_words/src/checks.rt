@@ -2,20 +2,20 @@
 
 ghost use Rattle.std.specs.Prelude.{◌≡◌, filter};
 ghost use Rattle.std.specs.List.{list_all};
-ghost use Rattle.command_words.specs.Asked.{are_fine, at_most_one, counts_one, has_its_values, is_fine, is_named};
-ghost use Rattle.command_words.specs.Asked.{sort_is_shown};
-ghost use Rattle.command_words.specs.Requests.{uses_of};
+ghost use Rattle.command_words.specs.Request.{are_fine, at_most_one, counts_one, has_its_values, is_fine, is_named};
+ghost use Rattle.command_words.specs.Request.{sort_is_shown};
+ghost use Rattle.command_words.specs.Meaning.{uses_of};
 ghost use Rattle.command_words.specs.Rows.{command_of, row_of, takers_of};
 ghost use Rattle.command_words.specs.Table.{includes};
 
-use crate::given::{first, says};
+use crate::option_values::{first, says};
 use crate::table::{Command, OptionRow, options};
 use crate::value::{accepts, is_among};
 use event_costs::event_names_shown;
-use sorted_words::Given;
+use sorted_words::SortedWords;
 
 /// Whether an option stands at most once, with a VALUE that it may have.
-fn is_fine(row: &OptionRow, given: &Given<'_>) -> bool
+fn is_fine(row: &OptionRow, given: &SortedWords<'_>) -> bool
     ensures { result ≡ is_fine (row_of row.now) (uses_of given.now) }
 {
     match given.uses(row.name) {
@@ -25,7 +25,7 @@ fn is_fine(row: &OptionRow, given: &Given<'_>) -> bool
     }
 }
 
-fn are_rows_fine(rows: &[OptionRow], command: Command, given: &Given<'_>) -> bool
+fn are_rows_fine(rows: &[OptionRow], command: Command, given: &SortedWords<'_>) -> bool
     ensures { result ≡ list_all (λ row. is_fine (row_of row) (uses_of given.now))
         (filter (λ row. includes (takers_of row.takers) (command_of command)) rows.now) }
 {
@@ -35,14 +35,14 @@ fn are_rows_fine(rows: &[OptionRow], command: Command, given: &Given<'_>) -> boo
 }
 
 /// Whether each option of a command stands at most once, with a VALUE that it may have.
-pub fn are_fine(command: Command, given: &Given<'_>) -> bool
+pub fn are_fine(command: Command, given: &SortedWords<'_>) -> bool
     ensures { result ≡ are_fine (command_of command) (uses_of given.now) }
 {
     are_rows_fine(options(), command, given)
 }
 
 /// Whether PROG or a file is named.
-fn is_named(given: &Given<'_>) -> bool
+fn is_named(given: &SortedWords<'_>) -> bool
     ensures { result ≡ is_named given.now.values }
 {
     match given.values() {
@@ -52,7 +52,7 @@ fn is_named(given: &Given<'_>) -> bool
 }
 
 /// Whether a report is sorted by one of the events that its run shows.
-fn sort_is_shown(given: &Given<'_>) -> bool
+fn sort_is_shown(given: &SortedWords<'_>) -> bool
     ensures { result ≡ sort_is_shown (uses_of given.now) }
 {
     match first(given, "sort") {
@@ -73,7 +73,7 @@ fn at_most_one(first: bool, second: bool, third: bool) -> bool
 }
 
 /// Whether a run counts at most one thing besides its parts.
-fn counts_one(given: &Given<'_>) -> bool
+fn counts_one(given: &SortedWords<'_>) -> bool
     ensures { result ≡ counts_one (uses_of given.now) }
 {
     at_most_one(
@@ -84,7 +84,7 @@ fn counts_one(given: &Given<'_>) -> bool
 }
 
 /// Whether a command has the values that it needs; those of a demonstration are looked at where it is made.
-pub fn has_its_values(command: Command, given: &Given<'_>) -> bool
+pub fn has_its_values(command: Command, given: &SortedWords<'_>) -> bool
     ensures { result ≡ has_its_values (command_of command) (uses_of given.now) given.now.values }
 {
     match command {

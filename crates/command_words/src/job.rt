@@ -1,21 +1,21 @@
 //! What a command asks for, each option with its value or its default.
 
 ghost use Rattle.std.specs.Prelude.{◌≡◌, [], IfOk, map, option_map, string_bytes};
-ghost use Rattle.command_words.specs.Asked.{default_first, default_last, demo, first, first_number};
-ghost use Rattle.command_words.specs.Asked.{first_shape, job, requested, tree_of, view};
-ghost use Rattle.command_words.specs.Asked.{Nothing, own_watching as own_watching_asked, watching as watching_asked};
-ghost use Rattle.command_words.specs.Asked.{Tree as asked_tree};
-ghost use Rattle.command_words.specs.Requests.{job_of, meaning_of, uses_of, view_of, watching_of};
-ghost use Rattle.command_words.specs.Requests.{tree_of as meaning_of_tree};
+ghost use Rattle.command_words.specs.Request.{default_first, default_last, demo, first, first_number};
+ghost use Rattle.command_words.specs.Request.{first_shape, job, command_request, tree_of, view};
+ghost use Rattle.command_words.specs.Request.{Nothing, own_watching as own_watching_asked, watching as watching_asked};
+ghost use Rattle.command_words.specs.Request.{Tree as asked_tree};
+ghost use Rattle.command_words.specs.Meaning.{job_of, meaning_of, uses_of, view_of, watching_of};
+ghost use Rattle.command_words.specs.Meaning.{tree_of as meaning_of_tree};
 ghost use Rattle.command_words.specs.Rows.{command_of};
 ghost use Rattle.std.specs.Prelude.{codes, unwrap_or};
 
-use crate::given::{first, first_geometry, first_number, first_small_number, says};
+use crate::option_values::{first, first_geometry, first_number, first_small_number, says};
 use crate::request::{Dumps, Geometries, Job, Request, Tree, View, Watching};
 use crate::table::Command;
 use crate::value::small_number;
 use cache_lru::Geometry;
-use sorted_words::Given;
+use sorted_words::SortedWords;
 use std::alloc::{AllocError, Global};
 
 const DEFAULT_BASE: &str = "callgrind.out";
@@ -47,7 +47,7 @@ fn default_last() -> Geometry
     }
 }
 
-fn caches(given: &Given<'_>) -> Geometries
+fn caches(given: &SortedWords<'_>) -> Geometries
     ensures i1 { result.i1 ≡ unwrap_or (first_shape (uses_of given.now (codes "I1"))) default_first }
     ensures d1 { result.d1 ≡ unwrap_or (first_shape (uses_of given.now (codes "D1"))) default_first }
     ensures ll { result.ll ≡ unwrap_or (first_shape (uses_of given.now (codes "LL"))) default_last }
@@ -59,7 +59,7 @@ fn caches(given: &Given<'_>) -> Geometries
     }
 }
 
-fn dumps<'a>(given: &Given<'a>) -> Dumps<'a>
+fn dumps<'a>(given: &SortedWords<'a>) -> Dumps<'a>
     ensures every { result.every ≡ first_number (uses_of given.now (codes "dump-every")) }
     ensures before { option_map (λ name. name.now) result.before ≡ first (uses_of given.now (codes "dump-before")) }
     ensures after { option_map (λ name. name.now) result.after ≡ first (uses_of given.now (codes "dump-after")) }
@@ -83,7 +83,7 @@ fn owned(alloc: Global, texts: &[&str]) -> Result<Vec<String>, AllocError>
 }
 
 /// The values, as a program takes its arguments.
-fn arguments(alloc: Global, given: &Given<'_>) -> Result<Vec<String>, AllocError>
+fn arguments(alloc: Global, given: &SortedWords<'_>) -> Result<Vec<String>, AllocError>
     ensures { IfOk result (λ args. map (λ word. string_bytes word) args.items ≡ given.now.values) }
 {
     match given.values() {
@@ -92,7 +92,7 @@ fn arguments(alloc: Global, given: &Given<'_>) -> Result<Vec<String>, AllocError
     }
 }
 
-fn files<'a>(alloc: Global, given: &Given<'a>) -> Result<Vec<&'a str>, AllocError>
+fn files<'a>(alloc: Global, given: &SortedWords<'a>) -> Result<Vec<&'a str>, AllocError>
     ensures { IfOk result (λ files. map (λ file. file.now) files.items ≡ given.now.values) }
 {
     match given.values() {
@@ -102,7 +102,7 @@ fn files<'a>(alloc: Global, given: &Given<'a>) -> Result<Vec<&'a str>, AllocErro
 }
 
 /// What `run` is asked to count besides its parts.
-fn watching(given: &Given<'_>) -> Watching
+fn watching(given: &SortedWords<'_>) -> Watching
     ensures { watching_of result ≡ watching_asked (uses_of given.now) }
 {
     if says(given, "waits", "yes") {
@@ -118,7 +118,7 @@ fn watching(given: &Given<'_>) -> Watching
 }
 
 /// What `report` is asked to count in its own parts.
-fn own_watching(given: &Given<'_>) -> Watching
+fn own_watching(given: &SortedWords<'_>) -> Watching
     ensures { watching_of result ≡ own_watching_asked (uses_of given.now) }
 {
     if says(given, "dump-instr", "yes") {
@@ -129,7 +129,11 @@ fn own_watching(given: &Given<'_>) -> Watching
 }
 
 /// What `run` is asked to do, and `report` before it reports.
-fn job<'a>(alloc: Global, watching: Watching, given: &Given<'a>) -> Result<Job<'a>, AllocError>
+fn job<'a>(
+    alloc: Global,
+    watching: Watching,
+    given: &SortedWords<'a>,
+) -> Result<Job<'a>, AllocError>
     ensures { IfOk result (λ r. job_of r ≡ job (watching_of watching) (uses_of given.now) given.now.values) }
 {
     Ok(Job {
@@ -175,7 +179,7 @@ pub fn default_job<'a>(base: &'a str, args: Vec<String>) -> Job<'a>
     }
 }
 
-fn tree(given: &Given<'_>) -> Tree
+fn tree(given: &SortedWords<'_>) -> Tree
     ensures { meaning_of_tree result ≡ tree_of (uses_of given.now (codes "tree")) }
 {
     if says(given, "tree", "caller") {
@@ -190,7 +194,7 @@ fn tree(given: &Given<'_>) -> Tree
 }
 
 /// What a report is asked to show.
-fn view<'a>(given: &Given<'a>) -> View<'a>
+fn view<'a>(given: &SortedWords<'a>) -> View<'a>
     ensures { view_of result ≡ view (uses_of given.now) }
 {
     View {
@@ -202,7 +206,7 @@ fn view<'a>(given: &Given<'a>) -> View<'a>
 }
 
 /// The demonstration of this size.
-fn demo<'a>(given: &Given<'_>) -> Request<'a>
+fn demo<'a>(given: &SortedWords<'_>) -> Request<'a>
     ensures { meaning_of result ≡ demo given.now.values }
 {
     match given.values() {
@@ -215,12 +219,12 @@ fn demo<'a>(given: &Given<'_>) -> Request<'a>
 }
 
 /// What a command asks for, where nothing is wrong with its options.
-pub fn requested<'a>(
+pub fn command_request<'a>(
     alloc: Global,
     command: Command,
-    given: &Given<'a>,
+    given: &SortedWords<'a>,
 ) -> Result<Request<'a>, AllocError>
-    ensures { IfOk result (λ r. meaning_of r ≡ requested (command_of command) (uses_of given.now) given.now.values) }
+    ensures { IfOk result (λ r. meaning_of r ≡ command_request (command_of command) (uses_of given.now) given.now.values) }
 {
     Ok(match command {
         Command::Run => Request::Run(job(alloc, watching(given), given)?),

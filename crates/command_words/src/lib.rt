@@ -2,8 +2,8 @@
 #![tactic(auto)]
 
 mod checks;
-mod given;
 mod job;
+mod option_values;
 mod request;
 mod table;
 mod value;

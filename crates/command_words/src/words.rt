@@ -2,8 +2,8 @@
 
 ghost use Rattle.std.specs.Prelude.{◌≡◌, IfOk, filter, find, map, option_map, string_bytes};
 ghost use Rattle.std.specs.Str.{bytes_eq};
-ghost use Rattle.command_words.specs.Asked.{asked, command_named, request};
-ghost use Rattle.command_words.specs.Requests.{meaning_of, uses_of};
+ghost use Rattle.command_words.specs.Request.{read_request, command_named, request};
+ghost use Rattle.command_words.specs.Meaning.{meaning_of, uses_of};
 ghost use Rattle.command_words.specs.Rows.{command_of, row_of, takers_of};
 ghost use Rattle.command_words.specs.Within.{IsWithin};
 ghost use Rattle.command_words.specs.Table.{commands, includes, name_of};
@@ -11,17 +11,17 @@ ghost use Rattle.command_words.specs.Table.{syntax_of as syntax_of_command};
 ghost use Rattle.sorted_words.specs.Syntaxes.{syntax_of};
 
 use crate::checks::{are_fine, has_its_values};
-use crate::job::requested;
+use crate::job::command_request;
 use crate::request::Request;
 use crate::table::{Command, OptionRow, options};
 use byte_text::OutOfMemory;
-use sorted_words::{Given, Syntax, sort};
+use sorted_words::{SortedWords, Syntax, sort};
 use std::alloc::{AllocError, Global};
 
 /// What the words ask for, of which the first is the program's own name. The second is the command; behind it stand its
 /// options, each once as `--NAME=VALUE` or `--NAME VALUE`, and values. Behind the first `--` every word is a value.
 pub fn read_words<'a>(alloc: Global, words: &'a [String]) -> Result<Request<'a>, OutOfMemory>
-    ensures asked { IfOk result (λ r. meaning_of r ≡ asked (map (λ word. string_bytes word) words.entry.now)) }
+    ensures asked { IfOk result (λ r. meaning_of r ≡ read_request (map (λ word. string_bytes word) words.entry.now)) }
     ensures within { IfOk result (λ r. IsWithin (meaning_of r)) }
 {
     let commands = syntaxes(alloc)?;
@@ -32,7 +32,7 @@ pub fn read_words<'a>(alloc: Global, words: &'a [String]) -> Result<Request<'a>,
 }
 
 /// What a command asks for with its options and values.
-fn request<'a>(alloc: Global, given: &Given<'a>) -> Result<Request<'a>, AllocError>
+fn request<'a>(alloc: Global, given: &SortedWords<'a>) -> Result<Request<'a>, AllocError>
     ensures { IfOk result (λ r. meaning_of r
         ≡ request (command_named given.now.command) (uses_of given.now) given.now.values) }
 {
@@ -45,7 +45,7 @@ fn request<'a>(alloc: Global, given: &Given<'a>) -> Result<Request<'a>, AllocErr
     if !has_its_values(command, given) {
         return Ok(Request::Usage);
     }
-    requested(alloc, command, given)
+    command_request(alloc, command, given)
 }
 
 fn command_named(name: &str) -> Option<Command>

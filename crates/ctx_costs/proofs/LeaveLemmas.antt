@@ -8,7 +8,7 @@ use Rattle.event_costs.specs.Arcs.{Closed}
 use Rattle.event_costs.specs.Costs.{difference_of_costs}
 use Rattle.event_costs.specs.Keys.{ArcKey}
 use Rattle.arc_costs.specs.Contents.{Contents}
-use Rattle.recorder.specs.inner.Tellers.{CanTell, RowsTold}
+use Rattle.recorder.specs.inner.Tellers.{CanTell, RowsAfterTellings}
 use Rattle.recorder.specs.inner.TellerLaws.{takes_front}
 use Rattle.recorder.proofs.TellingLemmas.{none_told}
 use Rattle.shadow_stack.specs.Frames.{StartWithin, closing, closings}
@@ -75,21 +75,21 @@ module _ (total : List ℕ) (xs ys : List Frame) (x : Frame) (kept : ℕ) (is : 
         takes_front rows (closing total x) (closings total (take (length ys - kept) (reverse ys))) (can_all rows can)
 
     pub can_below : (rows new : Contents) → CanTell rows (closings total (take (length xs - kept) (reverse xs)))
-        → RowsTold rows (closing total x) new → CanTell new (closings total (take (length ys - kept) (reverse ys)))
+        → RowsAfterTellings rows (closing total x) new → CanTell new (closings total (take (length ys - kept) (reverse ys)))
     can_below rows new can told =
         can_rest rows new (closing total x) (closings total (take (length ys - kept) (reverse ys)))
         (can_all rows can) told
 
-    pub told_all : (rows mid new : Contents) → RowsTold rows (closing total x) mid
-        → RowsTold mid (closings total (take (length ys - kept) (reverse ys))) new
-        → RowsTold rows (closings total (take (length xs - kept) (reverse xs))) new
+    pub told_all : (rows mid new : Contents) → RowsAfterTellings rows (closing total x) mid
+        → RowsAfterTellings mid (closings total (take (length ys - kept) (reverse ys))) new
+        → RowsAfterTellings rows (closings total (take (length xs - kept) (reverse xs))) new
     told_all rows mid new one more =
-        subst (λ (fs : List Frame). RowsTold rows (closings total fs) new) (sym (top_of_left xs ys x kept is less))
+        subst (λ (fs : List Frame). RowsAfterTellings rows (closings total fs) new) (sym (top_of_left xs ys x kept is less))
         (told_on rows mid new (closing total x) (closings total (take (length ys - kept) (reverse ys))) one more)
 
 -- none are left to leave
 pub none_left : (total : List ℕ) (rows : Contents) (fs : List Frame) (kept : ℕ) → length fs ≤ kept
-    → RowsTold rows (closings total (take (length fs - kept) (reverse fs))) rows
+    → RowsAfterTellings rows (closings total (take (length fs - kept) (reverse fs))) rows
 none_left total rows fs kept less =
     let none : length fs - kept ≡ 0 = omega (arith, less) in
-    subst (λ (n : ℕ). RowsTold rows (closings total (take n (reverse fs))) rows) (sym none) (none_told rows)
+    subst (λ (n : ℕ). RowsAfterTellings rows (closings total (take n (reverse fs))) rows) (sym none) (none_told rows)

@@ -12,7 +12,7 @@ use Rattle.event_costs.specs.declared.event.Event.{Event}
 use Rattle.event_costs.specs.Keys.{ArcKey, Place}
 use Rattle.event_costs.specs.declared.numbers.FuncId.{FuncId}
 use Rattle.sym_map.specs.SymbolMap.{SymbolMap}
-use Rattle.shadow_stack.specs.Changes.{Change, after, change, gone, unchanged, with_pushed}
+use Rattle.shadow_stack.specs.Changes.{Change, after, change, drop_count, no_change, with_pushed}
 use Rattle.shadow_stack.specs.Frames.{StartWithin, activation, closings, pushing, stack, with_frame}
 use Rattle.shadow_stack.specs.Stacks.{Activation, Stack}
 use Rattle.shadow_stack.specs.declared.frame.Frame.{Frame}
@@ -22,16 +22,16 @@ use Rattle.arc_costs.specs.Arcs.{add_arcs, arc_sum, call_sum}
 use Rattle.arc_costs.specs.Lines.{add_line, line, line_sum}
 use Rattle.event_costs.specs.Order.{same_place}
 use Rattle.arc_costs.specs.Rows.{ArcRow}
-use Rattle.recorder.specs.Notes.{told_rows}
+use Rattle.recorder.specs.Notes.{rows_of_tellings}
 use Rattle.recorder.specs.inner.Books.{AreKeyed}
-use Rattle.recorder.specs.inner.Tellers.{CanTell, RowsTold}
+use Rattle.recorder.specs.inner.Tellers.{CanTell, RowsAfterTellings}
 use Rattle.recorder.proofs.BookLemmas.{StartWithin-take, can_tell_cut, starts_grown}
 use Rattle.recorder.proofs.EnteredLemmas.{IsPushed, pushes_what}
 use Rattle.recorder.proofs.SumLemmas.{AreKeyed-take, closings_calls, closings_pushes, open_sum-split}
 use Rattle.recorder.proofs.TellingLemmas.{none_told}
 use Rattle.recorder.proofs.ListLemmas.{none_of}
 use Rattle.ctx_rows.specs.Telling.{CanCount}
-use Rattle.ctx_rows.specs.States.{Track, dropped, entered_frame, entering_arc, top_number}
+use Rattle.ctx_rows.specs.States.{Track, dropped_track_frames, entered_frame, entering_arc, top_number}
 use Rattle.ctx_rows.specs.States as states
 use Rattle.ctx_costs.specs.inner.Tracks.{Book, IsRoomy, IsSummed, SameThread, frames_of, stepped, track_of}
 use Rattle.ctx_costs.proofs.SummedLemmas as summed
@@ -57,8 +57,8 @@ pub record IsCounted (old : Book) (cost : List ℕ) (at : Place) (mid : Book) : 
 -- once the frames have gone that an event drops
 pub record IsLeft (syms : SymbolMap) (e : Event) (mid left : Book) : Type 0 where
   pub stacked : stack left.stack.frames ≡ after syms (stack mid.stack.frames) e
-  pub frames : frames_of left ≡ drop (gone syms e (stack mid.stack.frames)) (frames_of mid)
-  pub told : RowsTold mid.rows (closings mid.total (take (gone syms e (stack mid.stack.frames)) (frames_of mid)))
+  pub frames : frames_of left ≡ drop (drop_count syms e (stack mid.stack.frames)) (frames_of mid)
+  pub told : RowsAfterTellings mid.rows (closings mid.total (take (drop_count syms e (stack mid.stack.frames)) (frames_of mid)))
       left.rows
   pub stack_starts : StartWithin no_cost left.stack.frames
   pub same : SameThread mid left
@@ -71,21 +71,21 @@ pub record IsEntered (at : Place) (n : FuncId) (left new : Book) : Type 0 where
     kind = Jump;
     start = left.total;
   } ∷ frames_of left
-  pub told : RowsTold left.rows (Pushed (entering_arc at (top_number (frames_of left)) n) ∷ []) new.rows
+  pub told : RowsAfterTellings left.rows (Pushed (entering_arc at (top_number (frames_of left)) n) ∷ []) new.rows
   pub stack : new.stack ≡ left.stack
   pub same : SameThread left new
 
 -- No frame goes where an event leaves the stack as it is.
 pub none_left : (m : SymbolMap) (e : Event) (b : Book)
-    → change m e (stack b.stack.frames) ≡ unchanged (stack b.stack.frames) → StartWithin no_cost b.stack.frames
+    → change m e (stack b.stack.frames) ≡ no_change (stack b.stack.frames) → StartWithin no_cost b.stack.frames
     → IsLeft m e b b
 none_left m e b stays starts =
-    let none : gone m e (stack b.stack.frames) ≡ 0 = none_gone m e b.stack.frames stays in
+    let none : drop_count m e (stack b.stack.frames) ≡ 0 = none_gone m e b.stack.frames stays in
     record {
-      stacked = sym (ap (λ (h : Change). with_pushed h.pushed h.kept) stays);
+      stacked = sym (ap (λ (h : Change). with_pushed h.pushed h.rest) stays);
       frames = sym (ap (λ n. drop n (frames_of b)) none);
       told =
-          subst (λ (n : ℕ). RowsTold b.rows (closings b.total (take n (frames_of b))) b.rows) (sym none)
+          subst (λ (n : ℕ). RowsAfterTellings b.rows (closings b.total (take n (frames_of b))) b.rows) (sym none)
           (none_told b.rows);
       stack_starts = starts;
       same = record { alloc = refl; thread = refl; total = refl };
@@ -93,11 +93,11 @@ none_left m e b stays starts =
 
 -- The same once the event is counted.
 pub none_left_of : (m : SymbolMap) (e : Event) (old mid : Book) → mid.stack ≡ old.stack
-    → change m e (stack old.stack.frames) ≡ unchanged (stack old.stack.frames) → StartWithin no_cost old.stack.frames
+    → change m e (stack old.stack.frames) ≡ no_change (stack old.stack.frames) → StartWithin no_cost old.stack.frames
     → IsLeft m e mid mid
 none_left_of m e old mid same stays starts =
     none_left m e mid
-    (subst (λ s. change m e (stack s.frames) ≡ unchanged (stack s.frames)) (sym same) stays)
+    (subst (λ s. change m e (stack s.frames) ≡ no_change (stack s.frames)) (sym same) stays)
     (subst (λ s. StartWithin no_cost s.frames) (sym same) starts)
 
 -- A track in which an event has only added to numbers has the room that it had.
@@ -136,7 +136,7 @@ track_after n = stepped n.spot n.fresh n.syms n.event n.cost (track_of n.old)
 
 abbrev pub tellings_of : Counted → List Telling
 tellings_of n =
-    closings (sum_of_costs n.old.total n.cost) (dropped n.syms n.event (track_of n.old)) ++ pushing n.fresh
+    closings (sum_of_costs n.old.total n.cost) (dropped_track_frames n.syms n.event (track_of n.old)) ++ pushing n.fresh
 
 -- once all of it is done
 pub record HasStepped (n : Counted) (new : Book) : Type 0 where
@@ -144,7 +144,7 @@ pub record HasStepped (n : Counted) (new : Book) : Type 0 where
   pub stack_starts : StartWithin no_cost new.stack.frames
   pub sums : IsSummed (track_after n)
   pub arcs : (track_after n).arcs ≡ new.rows.arcs
-  pub told : RowsTold n.mid.rows (tellings_of n) new.rows
+  pub told : RowsAfterTellings n.mid.rows (tellings_of n) new.rows
 
 -- a frame that is made of an activation comes where that does
 pub some_mapped : {X Y : Type 0} (f : X → Y) (o : Option X) → is_some (option_map f o) ≡ is_some o
@@ -195,15 +195,15 @@ module _ (n : Counted) where
       subst (λ (sum : List ℕ). StartWithin sum (frames_of mid)) (sym n.is.total)
       (subst (λ (fs : List Frame). StartWithin total fs) (sym frames) starts_now)
 
-  closed : closings mid.total (take (gone syms e (stack mid.stack.frames)) (frames_of mid))
-      ≡ closings total (dropped syms e t)
+  closed : closings mid.total (take (drop_count syms e (stack mid.stack.frames)) (frames_of mid))
+      ≡ closings total (dropped_track_frames syms e t)
   closed = λ i. closings (n.is.total i)
-      (take (gone syms e (stack (n.is.stack i).frames)) (reverse (n.is.frames i).items))
+      (take (drop_count syms e (stack (n.is.stack i).frames)) (reverse (n.is.frames i).items))
 
-  can_close : CanTell mid.rows (closings total (dropped syms e t))
+  can_close : CanTell mid.rows (closings total (dropped_track_frames syms e t))
   can_close =
-      let count = gone syms e t.stack in
-      can_tell_cut total (dropped syms e t) mid.rows (StartWithin-take total count t.frames starts_now)
+      let count = drop_count syms e t.stack in
+      can_tell_cut total (dropped_track_frames syms e t) mid.rows (StartWithin-take total count t.frames starts_now)
       (AreKeyed-take mid.rows.arcs count t.frames
       (subst (λ (rs : List ArcRow). AreKeyed rs t.frames) (sym n.is.arcs) n.sums.keyed))
       (λ kind arc. omega (
@@ -215,17 +215,17 @@ module _ (n : Counted) where
       (λ arc. omega (arith, n.can.calls arc, ap (call_sum arc) n.is.arcs))
 
   pub mid_can : CanTell n.mid.rows
-      (closings n.mid.total (take (gone n.syms n.event (stack n.mid.stack.frames)) (frames_of n.mid)))
+      (closings n.mid.total (take (drop_count n.syms n.event (stack n.mid.stack.frames)) (frames_of n.mid)))
   mid_can = subst (λ (ts : List Telling). CanTell mid.rows ts) (sym closed) can_close
 
   module _ (left : Book) (goes : IsLeft n.syms n.event n.mid left) where
-    told_left : RowsTold mid.rows (closings total (dropped syms e t)) left.rows
-    told_left = subst (λ (ts : List Telling). RowsTold mid.rows ts left.rows) closed goes.told
+    told_left : RowsAfterTellings mid.rows (closings total (dropped_track_frames syms e t)) left.rows
+    told_left = subst (λ (ts : List Telling). RowsAfterTellings mid.rows ts left.rows) closed goes.told
 
-    pub frames_left : frames_of left ≡ states.kept n.syms n.event (track_of n.old)
+    pub frames_left : frames_of left ≡ states.kept_track_frames n.syms n.event (track_of n.old)
     frames_left =
-        let was : drop (gone syms e (stack mid.stack.frames)) (frames_of mid) ≡ states.kept syms e t
-        = λ i. drop (gone syms e (stack (n.is.stack i).frames)) (reverse (n.is.frames i).items) in
+        let was : drop (drop_count syms e (stack mid.stack.frames)) (frames_of mid) ≡ states.kept_track_frames syms e t
+        = λ i. drop (drop_count syms e (stack (n.is.stack i).frames)) (reverse (n.is.frames i).items) in
         goes.frames ∙ was
 
     stack_left : stack left.stack.frames ≡ after syms t.stack e
@@ -237,7 +237,7 @@ module _ (n : Counted) where
     -- a track after the step
     module _ (new : Book) (same_thread : new.thread ≡ left.thread) (same_total : new.total ≡ left.total)
         (same_stack : new.stack ≡ left.stack) (frames_are : frames_of new
-        ≡ with_frame total n.fresh (states.kept syms e t)) (told : RowsTold mid.rows (tellings_of n) new.rows) where
+        ≡ with_frame total n.fresh (states.kept_track_frames syms e t)) (told : RowsAfterTellings mid.rows (tellings_of n) new.rows) where
       lines_are : new.rows.lines ≡ (track_after n).lines
       lines_are =
           told.lines ∙ n.is.lines
@@ -248,7 +248,7 @@ module _ (n : Counted) where
           }) n.cost)) n.at_is
 
       arcs_are : new.rows.arcs ≡ (track_after n).arcs
-      arcs_are = told.arcs ∙ ap (λ (rs : List ArcRow). add_arcs rs (told_rows (tellings_of n))) n.is.arcs
+      arcs_are = told.arcs ∙ ap (λ (rs : List ArcRow). add_arcs rs (rows_of_tellings (tellings_of n))) n.is.arcs
 
       track_is : track_of new ≡ track_after n
       track_is =
@@ -291,23 +291,23 @@ module _ (n : Counted) where
         not_fresh : n.fresh ≡ None
         not_fresh = none_of n.fresh (n.comes ∙ ap (λ (o : Option Activation). is_some o) none)
 
-        same_frames : frames_of left ≡ with_frame total n.fresh (states.kept syms e t)
+        same_frames : frames_of left ≡ with_frame total n.fresh (states.kept_track_frames syms e t)
         same_frames =
             frames_left
-            ∙ ap (λ (o : Option Activation). with_frame total o (states.kept syms e t)) (sym not_fresh)
+            ∙ ap (λ (o : Option Activation). with_frame total o (states.kept_track_frames syms e t)) (sym not_fresh)
 
-        none_more : RowsTold mid.rows (tellings_of n) left.rows
+        none_more : RowsAfterTellings mid.rows (tellings_of n) left.rows
         none_more =
-            subst (λ (o : Option Activation). RowsTold mid.rows (closings total (dropped syms e t) ++ pushing o)
+            subst (λ (o : Option Activation). RowsAfterTellings mid.rows (closings total (dropped_track_frames syms e t) ++ pushing o)
             left.rows)
             (sym not_fresh)
-            (told_on mid.rows left.rows left.rows (closings total (dropped syms e t)) [] told_left
+            (told_on mid.rows left.rows left.rows (closings total (dropped_track_frames syms e t)) [] told_left
             (none_told left.rows))
 
     -- where a frame comes
     module _ (p : IsPushed n.syms n.event (track_of n.old).stack) where
-      pub some_kept : 0 < length (change n.syms n.event (stack n.old.stack.frames)).kept
-      some_kept = subst (λ (s : Stack). 0 < length s) (sym p.kept) (omega arith)
+      pub some_kept : 0 < length (change n.syms n.event (stack n.old.stack.frames)).rest
+      some_kept = subst (λ (s : Stack). 0 < length s) (sym p.rest) (omega arith)
 
       pub left_live : 0 < length left.frames.items
       left_live =
@@ -317,45 +317,45 @@ module _ (n : Counted) where
 
       pub left_arc_room : 1 ≤ n.old.rows.arc_room → 1 ≤ left.rows.arc_room
       left_arc_room some =
-          let none = closings_pushes total (dropped syms e t) in
+          let none = closings_pushes total (dropped_track_frames syms e t) in
           omega (arith, some, none, told_left.arc_room, n.is.arc_room)
 
       pub left_calls : (arc : ArcKey) → call_sum arc left.rows.arcs + 1 < 2 ^ 64
       left_calls arc =
-          let none = closings_calls total arc (dropped syms e t) in
+          let none = closings_calls total arc (dropped_track_frames syms e t) in
           omega (arith, none, told_left.calls arc, ap (call_sum arc) n.is.arcs, n.can.calls arc)
 
       -- the frame that comes
       pub new_stepped : (number : FuncId) (new : Book)
-          → n.fresh ≡ Some (entered_frame n.spot (states.kept n.syms n.event (track_of n.old)) number)
+          → n.fresh ≡ Some (entered_frame n.spot (states.kept_track_frames n.syms n.event (track_of n.old)) number)
           → IsEntered n.at number left new → HasStepped n new
       new_stepped number new fresh_is comes =
           has_stepped new comes.same.thread comes.same.total comes.stack new_frames new_told
         where
-          new_frames : frames_of new ≡ with_frame total n.fresh (states.kept syms e t)
+          new_frames : frames_of new ≡ with_frame total n.fresh (states.kept_track_frames syms e t)
           new_frames =
               let sum = goes.same.total ∙ n.is.total in
               let one : frames_of new
-              ≡ with_frame total (Some (entered_frame n.spot (states.kept syms e t) number)) (states.kept syms e t)
+              ≡ with_frame total (Some (entered_frame n.spot (states.kept_track_frames syms e t) number)) (states.kept_track_frames syms e t)
               = comes.frames ∙ (λ i. record {
                 func = number;
                 from = Some (entering_arc (n.at_is i) (top_number (frames_left i)) number);
                 kind = Jump;
                 start = sum i;
               } ∷ frames_left i) in
-              one ∙ ap (λ (o : Option Activation). with_frame total o (states.kept syms e t)) (sym fresh_is)
+              one ∙ ap (λ (o : Option Activation). with_frame total o (states.kept_track_frames syms e t)) (sym fresh_is)
 
-          new_told : RowsTold mid.rows (tellings_of n) new.rows
+          new_told : RowsAfterTellings mid.rows (tellings_of n) new.rows
           new_told =
-              let one : RowsTold left.rows
-              (Pushed (entering_arc n.spot (top_number (states.kept syms e t)) number) ∷ []) new.rows
-              = subst (λ (arc : ArcKey). RowsTold left.rows (Pushed arc ∷ []) new.rows)
+              let one : RowsAfterTellings left.rows
+              (Pushed (entering_arc n.spot (top_number (states.kept_track_frames syms e t)) number) ∷ []) new.rows
+              = subst (λ (arc : ArcKey). RowsAfterTellings left.rows (Pushed arc ∷ []) new.rows)
               (λ i. entering_arc (n.at_is i) (top_number (frames_left i)) number) comes.told in
-              subst (λ (o : Option Activation). RowsTold mid.rows (closings total (dropped syms e t) ++ pushing o)
+              subst (λ (o : Option Activation). RowsAfterTellings mid.rows (closings total (dropped_track_frames syms e t) ++ pushing o)
               new.rows)
               (sym fresh_is)
-              (told_on mid.rows left.rows new.rows (closings total (dropped syms e t))
-              (Pushed (entering_arc n.spot (top_number (states.kept syms e t)) number) ∷ []) told_left one)
+              (told_on mid.rows left.rows new.rows (closings total (dropped_track_frames syms e t))
+              (Pushed (entering_arc n.spot (top_number (states.kept_track_frames syms e t)) number) ∷ []) told_left one)
 
   -- whether a frame comes, by the stack that was counted in
   told_pushed : (any : Bool) → any ≡ is_some (change syms e (stack mid.stack.frames)).pushed

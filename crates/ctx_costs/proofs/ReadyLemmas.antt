@@ -17,7 +17,7 @@ use Rattle.shadow_stack.specs.declared.frame.Frame.{Frame}
 use Rattle.recorder.specs.Laws.{AreApart, IsIn}
 use Rattle.recorder.proofs.RecordingLemmas.{any-map}
 use Rattle.ctx_rows.specs.Contexts.{Context, context, same_context, has_context, number, with_context, AreDistinct}
-use Rattle.ctx_rows.specs.States.{State, Track, after_ready, begun, is_of, knows, with_started}
+use Rattle.ctx_rows.specs.States.{CtxState, Track, after_ready, first_track, is_track_of, knows, with_started}
 use Rattle.ctx_costs.specs.inner.Keys.{Held}
 use Rattle.ctx_costs.specs.inner.Tracks.{Book, HasBegun, IsKept, IsReadyFor, IsRoomy, IsSound, IsWatching, track_of}
 use Rattle.ctx_rows.proofs.NumberLemmas.{number_is, swapped, true_false}
@@ -46,7 +46,7 @@ root_context callers syms pc = take_one callers (place_of syms pc).func.0
 -- ---- a thread that begins
 
 begun_sound : (callers : ℕ) (cs : List Context) (thread : ThreadNo) (func : FuncId)
-    → IsSound callers (with_context cs (func.0 ∷ [])) (begun thread func (number cs (func.0 ∷ [])))
+    → IsSound callers (with_context cs (func.0 ∷ [])) (first_track thread func (number cs (func.0 ∷ [])))
 begun_sound callers cs thread func = record {
   sums = begun_summed thread func (number cs (func.0 ∷ []));
   numbered = (number_is cs (func.0 ∷ []) ∙ ap (λ (c : Context). Some c) (sym (take_one callers func.0)), tt);
@@ -255,7 +255,7 @@ module _ (callers : ℕ) (held now : Held) (books : List Book) (ready : Option T
         subst (λ (bs : List Book). IsWatching callers now bs (Some thread)) (sym begins.all) all_now
 
     pub begun_state : (syms : SymbolMap) (pc : ℕ) → func ≡ (place_of syms pc).func
-        → ◌≡◌ {A = State}
+        → ◌≡◌ {A = CtxState}
         (record { callers = callers; contexts = now.contexts; tracks = map track_of more; ready = Some thread })
         (after_ready (record {
           callers = callers;
@@ -264,17 +264,17 @@ module _ (callers : ℕ) (held now : Held) (books : List Book) (ready : Option T
           ready = ready;
         }) thread pc syms)
     begun_state syms pc is =
-        let w : State
+        let w : CtxState
         = record { callers = callers; contexts = held.contexts; tracks = map track_of books; ready = ready } in
-        let unknown : knows w thread ≡ false = any-map (is_of thread) track_of books ∙ none in
+        let unknown : knows w thread ≡ false = any-map (is_track_of thread) track_of books ∙ none in
         let first : func.0 ∷ [] ≡ context callers (root syms pc)
         = ap (λ (f : FuncId). f.0 ∷ []) is ∙ sym (root_context callers syms pc) in
         let contexts = begins.contexts ∙ ap (with_context held.contexts) first in
         let tracks : map track_of more ≡ map track_of books
-        ++ begun thread (place_of syms pc).func (number held.contexts (context callers (root syms pc))) ∷ []
+        ++ first_track thread (place_of syms pc).func (number held.contexts (context callers (root syms pc))) ∷ []
         = ap (map track_of) begins.all ∙ map-append track_of books (begins.book ∷ [])
         ∙ ap (λ (t : Track). map track_of books ++ t ∷ []) begins.track
-        ∙ (λ i. map track_of books ++ begun thread (is i) (number held.contexts (first i)) ∷ []) in
+        ∙ (λ i. map track_of books ++ first_track thread (is i) (number held.contexts (first i)) ∷ []) in
         (λ i. record { callers = callers; contexts = contexts i; tracks = tracks i; ready = Some thread })
         ∙ ap (λ k. record (if k then w else with_started syms w thread pc) { ready = Some thread }) (sym unknown)
 
@@ -342,7 +342,7 @@ module _ (callers : ℕ) (held now : Held) (books : List Book) (ready : Option T
             (own ∙ ap (λ (t : Track). Some t.thread) (track new)))
 
     pub known_state : (syms : SymbolMap) (pc : ℕ)
-        → ◌≡◌ {A = State}
+        → ◌≡◌ {A = CtxState}
         (record {
           callers = callers;
           contexts = now.contexts;
@@ -356,15 +356,15 @@ module _ (callers : ℕ) (held now : Held) (books : List Book) (ready : Option T
           ready = ready;
         }) thread pc syms)
     known_state syms pc =
-        let w : State
+        let w : CtxState
         = record { callers = callers; contexts = held.contexts; tracks = map track_of books; ready = ready } in
         let known : knows w thread ≡ true
-        = any-map (is_of thread) track_of books ∙ there_is books thread place new less (is new) in
+        = any-map (is_track_of thread) track_of books ∙ there_is books thread place new less (is new) in
         let tracks = tracks_set books place new track in
         (λ i. record { callers = callers; contexts = contexts i; tracks = tracks i; ready = Some thread })
         ∙ ap (λ k. record (if k then w else with_started syms w thread pc) { ready = Some thread }) (sym known)
 
-    pub still_state : ◌≡◌ {A = State}
+    pub still_state : ◌≡◌ {A = CtxState}
         (record {
           callers = callers;
           contexts = now.contexts;

@@ -13,7 +13,7 @@ use Rattle.event_costs.specs.Order as order
 use Rattle.arc_costs.specs.Rows as rows
 use Rattle.arc_costs.specs.Rows.{ArcRow, LineRow}
 use Rattle.recorder.specs.Laws.{IsIn}
-use Rattle.recorder.specs.Notes.{told_rows}
+use Rattle.recorder.specs.Notes.{rows_of_tellings}
 use Rattle.recorder.specs.Standing.{IsCutOf}
 use Rattle.recorder.specs.inner.TellerLaws.{arc_sum-append, call_sum-append}
 use Rattle.recorder.proofs.SumLemmas.{closings_calls, closings_costs}
@@ -25,7 +25,7 @@ use Rattle.ctx_rows.specs.Contexts.{Context, AreDistinct}
 use Rattle.ctx_rows.specs.Telling.{named_arc, named_line, rows_in, rows_of_track}
 use Rattle.ctx_rows.specs.Rows.{CtxListed, OfThread, arc_of, place_of}
 use Rattle.ctx_rows.specs.Sums.{arc_order, place_order, same_arc, same_place}
-use Rattle.ctx_rows.specs.States.{State, Track, track}
+use Rattle.ctx_rows.specs.States.{CtxState, Track, track}
 use Rattle.ctx_costs.specs.inner.Naming.{AreNamedRows}
 use Rattle.ctx_costs.specs.inner.Tracks.{IsSound}
 use Rattle.ctx_rows.specs.Tracks.{IsArcOf, IsNumber, account_of}
@@ -61,12 +61,12 @@ module _ (callers : ℕ) (cs : List Context) (t : Track) (sound : IsSound caller
     (found : Listed) (cut : IsCutOf (account_of t) found) (whole_lines : All (λ r. IsWhole r.cost) found.lines)
     (whole_arcs : All (λ r. IsWhole r.cost) found.arcs) where
   abbrev all_arcs : List ArcRow
-  all_arcs = t.arcs ++ told_rows (closings t.total t.frames)
+  all_arcs = t.arcs ++ rows_of_tellings (closings t.total t.frames)
 
   arcs_range : (arc : ArcKey) → arcs.has_arc arc all_arcs ≡ true → IsArcOf (length cs) arc
   arcs_range arc there =
-      elim (true_of_or (arcs.has_arc arc t.arcs) (arcs.has_arc arc (told_rows (closings t.total t.frames)))
-      (sym (has_arc-append arc t.arcs (told_rows (closings t.total t.frames))) ∙ there))
+      elim (true_of_or (arcs.has_arc arc t.arcs) (arcs.has_arc arc (rows_of_tellings (closings t.total t.frames)))
+      (sym (has_arc-append arc t.arcs (rows_of_tellings (closings t.total t.frames))) ∙ there))
       as (λ _. IsArcOf (length cs) arc) [
         | inl before ↦ sound.arcs arc before
         | inr closed ↦
@@ -76,13 +76,13 @@ module _ (callers : ℕ) (cs : List Context) (t : Track) (sound : IsSound caller
 
   arc_costs : (kind : ℕ) (arc : ArcKey) → arcs.arc_sum kind arc found.arcs ≡ arcs.arc_sum kind arc all_arcs
   arc_costs kind arc =
-      let both = arc_sum-append kind arc t.arcs (told_rows (closings t.total t.frames)) in
+      let both = arc_sum-append kind arc t.arcs (rows_of_tellings (closings t.total t.frames)) in
       let open_ones = closings_costs kind t.total arc t.frames sound.sums.starts in
       omega (arith, cut.arcs kind arc, both, open_ones)
 
   arc_calls : (arc : ArcKey) → arcs.call_sum arc found.arcs ≡ arcs.call_sum arc all_arcs
   arc_calls arc =
-      let both = call_sum-append arc t.arcs (told_rows (closings t.total t.frames)) in
+      let both = call_sum-append arc t.arcs (rows_of_tellings (closings t.total t.frames)) in
       let open_ones = closings_calls t.total arc t.frames in
       omega (arith, cut.calls arc, both, open_ones)
 
@@ -151,7 +151,7 @@ module _ (callers : ℕ) (cs : List Context) (t : Track) (sound : IsSound caller
     rows_are = λ i. record { lines = named_lines i; arcs = named_arcs i }
 
 -- the rows of a state
-pub state_rows : (w : State) (thread : ThreadNo) (t : Track) (named : CtxListed) → track w thread ≡ t
+pub state_rows : (w : CtxState) (thread : ThreadNo) (t : Track) (named : CtxListed) → track w thread ≡ t
     → named ≡ rows_of_track w.contexts t → named ≡ rows_in w thread
 unfolding rows_in
 state_rows w thread t named is same = same ∙ ap (λ (u : Track). rows_of_track w.contexts u) (sym is)

@@ -11,7 +11,7 @@ use Rattle.event_costs.specs.Keys.{Place}
 use Rattle.event_costs.specs.declared.numbers.ThreadNo.{ThreadNo}
 use Rattle.sym_map.specs.SymbolMap.{SymbolMap}
 use Rattle.shadow_stack.specs.Changes.{Change, change}
-use Rattle.shadow_stack.specs.Frames.{StartWithin, activation, restarted, restarted_at, stack}
+use Rattle.shadow_stack.specs.Frames.{StartWithin, activation, restarted_frames, restarted_frame, stack}
 use Rattle.shadow_stack.specs.Stacks.{Activation, Stack}
 use Rattle.shadow_stack.specs.declared.frame.Frame.{Frame}
 use Rattle.arc_costs.specs.Arcs.{cleared_arcs}
@@ -22,8 +22,8 @@ use Rattle.arc_costs.proofs.ArcLemmas.{cleared_keys}
 use Rattle.recorder.specs.Laws.{AreApart}
 use Rattle.ctx_rows.specs.Contexts.{Context, context, AreDistinct}
 use Rattle.ctx_rows.specs.Telling.{CanCount}
-use Rattle.ctx_rows.specs.States.{State, Track, after_part, after_ready, after_seen, contexts_after, knows}
-use Rattle.ctx_rows.specs.States.{contexts_with, cut_off, seen_on, track}
+use Rattle.ctx_rows.specs.States.{CtxState, Track, after_part, after_ready, after_seen, contexts_after, knows}
+use Rattle.ctx_rows.specs.States.{contexts_with, track_after_cut, track_after_event, track}
 use Rattle.ctx_rows.specs.States.{with_started, with_track}
 use Rattle.ctx_costs.specs.inner.Keys.{Held}
 use Rattle.ctx_costs.specs.inner.Tracks.{Book, IsKept, IsPlaceOf, IsReadyFor, IsRoomy, IsSound, IsWatching, SameThread}
@@ -53,7 +53,7 @@ as_ready callers held books true roomy watching = record {
 }
 
 -- a thread that is known is made ready
-pub known_ready : (w : State) (thread : ThreadNo) (pc : ℕ) (syms : SymbolMap) → knows w thread ≡ true
+pub known_ready : (w : CtxState) (thread : ThreadNo) (pc : ℕ) (syms : SymbolMap) → knows w thread ≡ true
     → record w { ready = Some thread } ≡ after_ready w thread pc syms
 known_ready w thread pc syms known =
     ap (λ k. record (if k then w else with_started syms w thread pc) { ready = Some thread }) (sym known)
@@ -90,7 +90,7 @@ module _ (callers : ℕ) (held now : Held) (books : List Book) (ready : Option T
     (watching : IsWatching callers held books ready) (thread : ThreadNo) (place : ℕ) (less : place < length books)
     (is : (d : Book) → (get_or books place d).thread.0 ≡ thread.0) (old d : Book) (old_is : old ≡ get_or books place d)
   where
-    abbrev w : State
+    abbrev w : CtxState
     w = record { callers = callers; contexts = held.contexts; tracks = map track_of books; ready = ready }
 
     pub track_now : track w thread ≡ track_of old
@@ -150,7 +150,7 @@ module _ (callers : ℕ) (held now : Held) (books : List Book) (ready : Option T
 
     -- after a step
     module _ (syms : SymbolMap) (e : Event) (cost : List ℕ) (new : Book) (of : e.thread ≡ thread)
-        (track_is : track_of new ≡ seen_on callers held.contexts syms e cost (track_of old))
+        (track_is : track_of new ≡ track_after_event callers held.contexts syms e cost (track_of old))
         (contexts : now.contexts ≡ contexts_after callers held.contexts (change syms e (stack old.stack.frames)))
         (kept : IsKept callers now.contexts new) where
       abbrev made : Change
@@ -166,19 +166,19 @@ module _ (callers : ℕ) (held now : Held) (books : List Book) (ready : Option T
             all_set (IsKept callers now.contexts) books place new
             (all_weaker (IsKept callers held.contexts) (IsKept callers now.contexts) books
             (λ b was. subst (λ (cs : List Context). IsKept callers cs b) (sym contexts)
-            (kept_with callers held.contexts made.kept made.pushed b was)) watching.kept) kept;
+            (kept_with callers held.contexts made.rest made.pushed b was)) watching.kept) kept;
         apart = apart_now new same_thread;
         distinct =
             subst AreDistinct (sym contexts)
-            (distinct_after callers held.contexts made.kept made.pushed watching.distinct);
+            (distinct_after callers held.contexts made.rest made.pushed watching.distinct);
         filled =
             subst (λ (cs : List Context). AllByRecursion (λ (c : Context). 0 < length c) cs) (sym contexts)
-            (filled_after callers held.contexts made.kept made.pushed watching.filled);
+            (filled_after callers held.contexts made.rest made.pushed watching.filled);
         roomy = none_is_ready (slice_set books place new);
         room = λ some. absurd (true_false (sym some));
       }
 
-      pub seen_state : ◌≡◌ {A = State}
+      pub seen_state : ◌≡◌ {A = CtxState}
           (record {
             callers = callers;
             contexts = now.contexts;
@@ -190,21 +190,21 @@ module _ (callers : ℕ) (held now : Held) (books : List Book) (ready : Option T
           let contexts_ : now.contexts ≡ contexts_after callers held.contexts (change syms e (track w e.thread).stack)
           = contexts ∙ ap (λ (t : Track). contexts_after callers held.contexts (change syms e t.stack)) (sym own) in
           let tracks : map track_of (slice_set books place new)
-          ≡ with_track (seen_on callers held.contexts syms e cost (track w e.thread)) (map track_of books)
-          = sym (tracks_now new same_thread (seen_on callers held.contexts syms e cost (track_of old)) track_is)
-          ∙ ap (λ (t : Track). with_track (seen_on callers held.contexts syms e cost t) (map track_of books))
+          ≡ with_track (track_after_event callers held.contexts syms e cost (track w e.thread)) (map track_of books)
+          = sym (tracks_now new same_thread (track_after_event callers held.contexts syms e cost (track_of old)) track_is)
+          ∙ ap (λ (t : Track). with_track (track_after_event callers held.contexts syms e cost t) (map track_of books))
           (sym own) in
           λ i. record { callers = callers; contexts = contexts_ i; tracks = tracks i; ready = None }
 
     -- after a cut
-    module _ (new : Book) (frames : frames_of new ≡ restarted old.total (frames_of old))
+    module _ (new : Book) (frames : frames_of new ≡ restarted_frames old.total (frames_of old))
         (lines : new.rows.lines ≡ cleared_lines old.rows.lines) (arcs : new.rows.arcs ≡ cleared_arcs old.rows.arcs)
         (same_stack : new.stack ≡ old.stack) (same : SameThread old new) where
       same_lines : (rs : List LineRow) (q : Place) → has_line q (cleared_lines rs) ≡ has_line q rs
       same_lines [] q = refl
       same_lines (r ∷ rs) q = ap (λ b. same_place q r.place || b) (same_lines rs q)
 
-      cut_sound : (cs : List Context) (t : Track) → IsSound callers cs t → IsSound callers cs (cut_off t)
+      cut_sound : (cs : List Context) (t : Track) → IsSound callers cs t → IsSound callers cs (track_after_cut t)
       cut_sound cs t sound = record {
         sums = cut_summed t sound.sums;
         numbered = numbered_restarted callers cs t.total t.frames t.stack sound.numbered;
@@ -212,7 +212,7 @@ module _ (callers : ℕ) (held now : Held) (books : List Book) (ready : Option T
         arcs = λ arc there. sound.arcs arc (sym (cleared_keys t.arcs arc) ∙ there);
       }
 
-      now_cut : track_of new ≡ cut_off (track_of old)
+      now_cut : track_of new ≡ track_after_cut (track_of old)
       now_cut = cut_track old new frames lines arcs same_stack same
 
       new_kept : IsKept callers held.contexts new
@@ -240,7 +240,7 @@ module _ (callers : ℕ) (held now : Held) (books : List Book) (ready : Option T
               subst (λ (b : Book). IsReadyFor ready b) (sym old_is)
               (all_at (IsReadyFor ready) books place d watching.roomy less)
 
-      pub cut_state : ◌≡◌ {A = State}
+      pub cut_state : ◌≡◌ {A = CtxState}
           (record {
             callers = callers;
             contexts = held.contexts;
@@ -248,21 +248,21 @@ module _ (callers : ℕ) (held now : Held) (books : List Book) (ready : Option T
             ready = ready;
           }) (after_part w thread)
       cut_state =
-          let tracks : map track_of (slice_set books place new) ≡ with_track (cut_off (track w thread))
+          let tracks : map track_of (slice_set books place new) ≡ with_track (track_after_cut (track w thread))
           (map track_of books)
-          = sym (tracks_now new same.thread (cut_off (track_of old)) now_cut)
-          ∙ ap (λ (t : Track). with_track (cut_off t) (map track_of books)) (sym track_now) in
+          = sym (tracks_now new same.thread (track_after_cut (track_of old)) now_cut)
+          ∙ ap (λ (t : Track). with_track (track_after_cut t) (map track_of books)) (sym track_now) in
           λ i. record { callers = callers; contexts = held.contexts; tracks = tracks i; ready = ready }
 
 -- a track that is cut has the room that it had
-pub room_still : (old new : Book) → frames_of new ≡ restarted old.total (frames_of old)
+pub room_still : (old new : Book) → frames_of new ≡ restarted_frames old.total (frames_of old)
     → vec_capacity new.frames ≡ vec_capacity old.frames → new.rows.line_room ≡ old.rows.line_room
     → new.rows.arc_room ≡ old.rows.arc_room → new.stack ≡ old.stack → IsRoomy old → IsRoomy new
 room_still old new frames capacity lines arcs stack_ room = record {
   stack = subst (λ s. 1 ≤ s.spare) (sym stack_) room.stack;
   frames =
       let all = sym (length-reverse new.frames.items) ∙ ap (length {A = Frame}) frames
-      ∙ length-map (frames_of old) (restarted_at old.total) ∙ length-reverse old.frames.items in
+      ∙ length-map (frames_of old) (restarted_frame old.total) ∙ length-reverse old.frames.items in
       omega (arith, all, capacity, room.frames);
   lines = omega (arith, lines, room.lines);
   arcs = omega (arith, arcs, room.arcs);

@@ -8,7 +8,7 @@ use Rattle.event_costs.specs.declared.event.Event.{Event}
 use Rattle.event_costs.specs.Keys.{ArcKey, Place}
 use Rattle.event_costs.specs.declared.numbers.FuncId.{FuncId}
 use Rattle.sym_map.specs.SymbolMap.{SymbolMap, place_of}
-use Rattle.shadow_stack.specs.Changes.{after, change, entered, gone, with_pushed}
+use Rattle.shadow_stack.specs.Changes.{after, change, new_activation, drop_count, with_pushed}
 use Rattle.shadow_stack.specs.Frames.{closing, closings, pushing, with_frame}
 use Rattle.shadow_stack.specs.Stacks.{Activation, Stack}
 use Rattle.shadow_stack.specs.declared.frame.Frame.{Frame}
@@ -18,16 +18,16 @@ use Rattle.arc_costs.specs.Lines.{has_line, line}
 use Rattle.event_costs.specs.Order.{same_arc, same_place}
 use Rattle.arc_costs.specs.Rows.{ArcRow}
 use Rattle.arc_costs.proofs.LineLemmas.{line_keys}
-use Rattle.recorder.specs.Notes.{told_rows}
+use Rattle.recorder.specs.Notes.{rows_of_tellings}
 use Rattle.recorder.specs.inner.Books.{AreKeyed}
-use Rattle.recorder.specs.inner.Tellers.{RowsTold}
-use Rattle.recorder.specs.inner.TellerLaws.{told_rows-append}
+use Rattle.recorder.specs.inner.Tellers.{RowsAfterTellings}
+use Rattle.recorder.specs.inner.TellerLaws.{rows_of_tellings-append}
 use Rattle.recorder.proofs.EnteredLemmas.{IsPushed, pushes_what}
 use Rattle.recorder.proofs.SumLemmas.{AreKeyed-take}
 use Rattle.recorder.proofs.ArcRowLemmas.{arc_alike}
 use Rattle.recorder.proofs.LineLemmas.{place_alike}
 use Rattle.ctx_rows.specs.Contexts.{Context, context, number, with_context}
-use Rattle.ctx_rows.specs.States.{Track, contexts_after, contexts_with, dropped, kept, pushed, pushed_frame, seen_on}
+use Rattle.ctx_rows.specs.States.{Track, contexts_after, contexts_with, dropped_track_frames, kept_track_frames, pushed_track_frame, pushed_frame, track_after_event}
 use Rattle.ctx_rows.specs.States.{top_number}
 use Rattle.ctx_costs.specs.inner.Tracks.{IsSound, IsSummed}
 use Rattle.ctx_rows.specs.Tracks.{AreNumbered, IsArcOf, IsNumber}
@@ -48,7 +48,7 @@ more_contexts callers cs (Some a) s k less = with_context_more cs (context calle
 -- frames that are closed give to keys alone
 closing_key : (arcs : List ArcRow) (total : List ℕ) (f : Frame) (from : Option ArcKey) (arc : ArcKey)
     → IfSome from (λ key. has_arc key arcs ≡ true)
-    → has_arc arc (told_rows (option_map_or (λ key. Closed key (difference_of_costs total f.start) ∷ []) from []))
+    → has_arc arc (rows_of_tellings (option_map_or (λ key. Closed key (difference_of_costs total f.start) ∷ []) from []))
     ≡ true
     → (key : ArcKey) × (has_arc key arcs ≡ true) × (same_arc arc key ≡ true)
 closing_key arcs total f None arc keyed there = absurd (cc)
@@ -62,13 +62,13 @@ closing_key arcs total f (Some key) arc keyed there = (
 )
 
 pub closings_key : (arcs : List ArcRow) (total : List ℕ) (fs : List Frame) (arc : ArcKey) → AreKeyed arcs fs
-    → has_arc arc (told_rows (closings total fs)) ≡ true
+    → has_arc arc (rows_of_tellings (closings total fs)) ≡ true
     → (key : ArcKey) × (has_arc key arcs ≡ true) × (same_arc arc key ≡ true)
 closings_key arcs total [] arc keyed there = absurd (cc)
 closings_key arcs total (f ∷ fs) arc keyed there =
-    elim (true_of_or (has_arc arc (told_rows (closing total f))) (has_arc arc (told_rows (closings total fs)))
-    (sym (ap (has_arc arc) (told_rows-append (closing total f) (closings total fs))
-    ∙ has_arc-append arc (told_rows (closing total f)) (told_rows (closings total fs))) ∙ there))
+    elim (true_of_or (has_arc arc (rows_of_tellings (closing total f))) (has_arc arc (rows_of_tellings (closings total fs)))
+    (sym (ap (has_arc arc) (rows_of_tellings-append (closing total f) (closings total fs))
+    ∙ has_arc-append arc (rows_of_tellings (closing total f)) (rows_of_tellings (closings total fs))) ∙ there))
     as (λ _. (key : ArcKey) × (has_arc key arcs ≡ true) × (same_arc arc key ≡ true)) [
       | inl here ↦ closing_key arcs total f f.from arc keyed.0 here
       | inr later ↦ closings_key arcs total fs arc keyed.1 later
@@ -80,36 +80,36 @@ same_ends count a b is of = subst (IsArcOf count) (sym (arc_alike a b is)) of
 module _ (callers : ℕ) (cs : List Context) (syms : SymbolMap) (e : Event) (cost : List ℕ) (t : Track)
     (old new : Contents)
     (sound : IsSound callers cs t) (live : 0 < length t.stack)
-    (was : t.arcs ≡ old.arcs) (now : (seen_on callers cs syms e cost t).arcs ≡ new.arcs)
-    (told : RowsTold old (closings (sum_of_costs t.total cost) (dropped syms e t)
-    ++ pushing (pushed callers cs syms e t)) new) (sums : IsSummed (seen_on callers cs syms e cost t)) where
+    (was : t.arcs ≡ old.arcs) (now : (track_after_event callers cs syms e cost t).arcs ≡ new.arcs)
+    (told : RowsAfterTellings old (closings (sum_of_costs t.total cost) (dropped_track_frames syms e t)
+    ++ pushing (pushed_track_frame callers cs syms e t)) new) (sums : IsSummed (track_after_event callers cs syms e cost t)) where
   abbrev u : Track
-  u = seen_on callers cs syms e cost t
+  u = track_after_event callers cs syms e cost t
 
   abbrev total : List ℕ
   total = sum_of_costs t.total cost
 
   abbrev fresh : Option Activation
-  fresh = pushed callers cs syms e t
+  fresh = pushed_track_frame callers cs syms e t
 
-  kept_numbered : AreNumbered callers cs (kept syms e t) (change syms e t.stack).kept
+  kept_numbered : AreNumbered callers cs (kept_track_frames syms e t) (change syms e t.stack).rest
   kept_numbered = numbered_kept callers cs syms e t sound.numbered
 
   -- the contexts of frames
   numbered_with : (p : Option Activation) → (change syms e t.stack).pushed ≡ p
-      → AreNumbered callers (contexts_with callers cs p (change syms e t.stack).kept)
-      (with_frame total (pushed_frame callers cs (place_of syms e.done.pc) (kept syms e t)
-      (record { kept = (change syms e t.stack).kept; pushed = p })) (kept syms e t))
-      (with_pushed p (change syms e t.stack).kept)
+      → AreNumbered callers (contexts_with callers cs p (change syms e t.stack).rest)
+      (with_frame total (pushed_frame callers cs (place_of syms e.done.pc) (kept_track_frames syms e t)
+      (record { rest = (change syms e t.stack).rest; pushed = p })) (kept_track_frames syms e t))
+      (with_pushed p (change syms e t.stack).rest)
   numbered_with None none = kept_numbered
   numbered_with (Some a) some = (
-    number_is cs (context callers (a ∷ (change syms e t.stack).kept)),
-    numbered_more callers cs (context callers (a ∷ (change syms e t.stack).kept)) (kept syms e t)
-        (change syms e t.stack).kept kept_numbered,
+    number_is cs (context callers (a ∷ (change syms e t.stack).rest)),
+    numbered_more callers cs (context callers (a ∷ (change syms e t.stack).rest)) (kept_track_frames syms e t)
+        (change syms e t.stack).rest kept_numbered,
   )
 
   numbered_after : AreNumbered callers (contexts_after callers cs (change syms e t.stack))
-      (with_frame total fresh (kept syms e t)) (after syms t.stack e)
+      (with_frame total fresh (kept_track_frames syms e t)) (after syms t.stack e)
   numbered_after = numbered_with (change syms e t.stack).pushed refl
 
   -- the numbers of rows
@@ -119,7 +119,7 @@ module _ (callers : ℕ) (cs : List Context) (syms : SymbolMap) (e : Event) (cos
 
   later : (number : FuncId) → IsNumber (length cs) number
       → IsNumber (length (contexts_after callers cs (change syms e t.stack))) number
-  later number less = more_contexts callers cs (change syms e t.stack).pushed (change syms e t.stack).kept number.0 less
+  later number less = more_contexts callers cs (change syms e t.stack).pushed (change syms e t.stack).rest number.0 less
 
   lines_after : (place : Place) → has_line place u.lines ≡ true
       → IsNumber (length (contexts_after callers cs (change syms e t.stack))) place.func
@@ -138,65 +138,65 @@ module _ (callers : ℕ) (cs : List Context) (syms : SymbolMap) (e : Event) (cos
 
   -- the number of the frame that comes, and that of the one beneath
   number_in : (p : Option Activation) → (change syms e t.stack).pushed ≡ p → (a : Activation) → p ≡ Some a
-      → IsNumber (length (contexts_with callers cs p (change syms e t.stack).kept))
-      (number cs (context callers (a ∷ (change syms e t.stack).kept)))
+      → IsNumber (length (contexts_with callers cs p (change syms e t.stack).rest))
+      (number cs (context callers (a ∷ (change syms e t.stack).rest)))
   number_in None pushed_ a some = absurd (cc)
   number_in (Some b) pushed_ a some =
       let same : b ≡ a = cc in
-      subst (λ (d : Activation). IsNumber (length (contexts_with callers cs (Some b) (change syms e t.stack).kept))
-      (number cs (context callers (d ∷ (change syms e t.stack).kept)))) same
-      (within_list (with_context cs (context callers (b ∷ (change syms e t.stack).kept)))
-      (number cs (context callers (b ∷ (change syms e t.stack).kept))).0
-      (context callers (b ∷ (change syms e t.stack).kept))
-      (number_is cs (context callers (b ∷ (change syms e t.stack).kept))))
+      subst (λ (d : Activation). IsNumber (length (contexts_with callers cs (Some b) (change syms e t.stack).rest))
+      (number cs (context callers (d ∷ (change syms e t.stack).rest)))) same
+      (within_list (with_context cs (context callers (b ∷ (change syms e t.stack).rest)))
+      (number cs (context callers (b ∷ (change syms e t.stack).rest))).0
+      (context callers (b ∷ (change syms e t.stack).rest))
+      (number_is cs (context callers (b ∷ (change syms e t.stack).rest))))
 
-  beneath_in : 0 < length (change syms e t.stack).kept → IsNumber (length cs) (top_number (kept syms e t))
+  beneath_in : 0 < length (change syms e t.stack).rest → IsNumber (length cs) (top_number (kept_track_frames syms e t))
   beneath_in some =
-      within_list cs (top_number (kept syms e t)).0 (context callers (change syms e t.stack).kept)
-      (numbered_top callers cs (kept syms e t) (change syms e t.stack).kept kept_numbered some)
+      within_list cs (top_number (kept_track_frames syms e t)).0 (context callers (change syms e t.stack).rest)
+      (numbered_top callers cs (kept_track_frames syms e t) (change syms e t.stack).rest kept_numbered some)
 
   abbrev count : ℕ
   count = length (contexts_after callers cs (change syms e t.stack))
 
-  from_told : (arc : ArcKey) → has_arc arc (told_rows (pushing fresh)) ≡ true → IsArcOf count arc
+  from_told : (arc : ArcKey) → has_arc arc (rows_of_tellings (pushing fresh)) ≡ true → IsArcOf count arc
   from_told arc there = by (pushes_what syms e t.stack (sound.sums.rooted live))
     where
       by : ((change syms e t.stack).pushed ≡ None) ⊎ IsPushed syms e t.stack → IsArcOf count arc
       by (inl none) =
           absurd (true_is_false (sym there
-          ∙ ap (λ (p : Option Activation). has_arc arc (told_rows (pushing (pushed_frame callers cs
-          (place_of syms e.done.pc) (kept syms e t) (record { kept = (change syms e t.stack).kept; pushed = p })))))
+          ∙ ap (λ (p : Option Activation). has_arc arc (rows_of_tellings (pushing (pushed_frame callers cs
+          (place_of syms e.done.pc) (kept_track_frames syms e t) (record { rest = (change syms e t.stack).rest; pushed = p })))))
           none))
       by (inr p) =
-          let a : Activation = entered syms e p.kind (p.caller ∷ p.under) in
-          let callee = number cs (context callers (a ∷ (change syms e t.stack).kept)) in
+          let a : Activation = new_activation syms e p.kind (p.caller ∷ p.under) in
+          let callee = number cs (context callers (a ∷ (change syms e t.stack).rest)) in
           let key : ArcKey = record {
-            caller = top_number (kept syms e t);
+            caller = top_number (kept_track_frames syms e t);
             file = (place_of syms e.done.pc).file;
             line = (place_of syms e.done.pc).line;
             callee = callee;
           } in
-          let one : has_arc arc (told_rows (pushing fresh)) ≡ same_arc arc key || false
-          = ap (λ (p : Option Activation). has_arc arc (told_rows (pushing (pushed_frame callers cs
-          (place_of syms e.done.pc) (kept syms e t) (record { kept = (change syms e t.stack).kept; pushed = p })))))
+          let one : has_arc arc (rows_of_tellings (pushing fresh)) ≡ same_arc arc key || false
+          = ap (λ (p : Option Activation). has_arc arc (rows_of_tellings (pushing (pushed_frame callers cs
+          (place_of syms e.done.pc) (kept_track_frames syms e t) (record { rest = (change syms e t.stack).rest; pushed = p })))))
           p.pushed in
-          let some : 0 < length (change syms e t.stack).kept
-          = subst (λ (s : Stack). 0 < length s) (sym p.kept) (omega arith) in
+          let some : 0 < length (change syms e t.stack).rest
+          = subst (λ (s : Stack). 0 < length s) (sym p.rest) (omega arith) in
           same_ends count arc key
           (elim (true_of_or (same_arc arc key) false (sym one ∙ there)) as (λ _. same_arc arc key ≡ true) [
             | inl same ↦ same
             | inr never ↦ absurd (true_is_false (sym never))
           ]) (
-            later (top_number (kept syms e t)) (beneath_in some),
+            later (top_number (kept_track_frames syms e t)) (beneath_in some),
             number_in (change syms e t.stack).pushed refl a p.pushed,
           )
 
-  from_closed : (arc : ArcKey) → has_arc arc (told_rows (closings total (dropped syms e t))) ≡ true
+  from_closed : (arc : ArcKey) → has_arc arc (rows_of_tellings (closings total (dropped_track_frames syms e t))) ≡ true
       → IsArcOf (length cs) arc
   from_closed arc there =
       let k =
-      closings_key t.arcs total (dropped syms e t) arc
-      (AreKeyed-take t.arcs (gone syms e t.stack) t.frames sound.sums.keyed)
+      closings_key t.arcs total (dropped_track_frames syms e t) arc
+      (AreKeyed-take t.arcs (drop_count syms e t.stack) t.frames sound.sums.keyed)
       there in
       same_ends (length cs) arc k.0 k.2 (sound.arcs k.0 k.1)
 
@@ -206,14 +206,14 @@ module _ (callers : ℕ) (cs : List Context) (syms : SymbolMap) (e : Event) (cos
   arcs_after : (arc : ArcKey) → has_arc arc u.arcs ≡ true → IsArcOf count arc
   arcs_after arc there =
       elim (true_of_or (has_arc arc old.arcs)
-      (has_arc arc (told_rows (closings total (dropped syms e t) ++ pushing fresh)))
+      (has_arc arc (rows_of_tellings (closings total (dropped_track_frames syms e t) ++ pushing fresh)))
       (sym (ap (has_arc arc) now ∙ told.keys arc) ∙ there)) as (λ _. IsArcOf count arc) [
         | inl before ↦ grown arc (sound.arcs arc (ap (has_arc arc) was ∙ before))
         | inr new_one ↦
-            elim (true_of_or (has_arc arc (told_rows (closings total (dropped syms e t))))
-            (has_arc arc (told_rows (pushing fresh)))
-            (sym (ap (has_arc arc) (told_rows-append (closings total (dropped syms e t)) (pushing fresh))
-            ∙ has_arc-append arc (told_rows (closings total (dropped syms e t))) (told_rows (pushing fresh)))
+            elim (true_of_or (has_arc arc (rows_of_tellings (closings total (dropped_track_frames syms e t))))
+            (has_arc arc (rows_of_tellings (pushing fresh)))
+            (sym (ap (has_arc arc) (rows_of_tellings-append (closings total (dropped_track_frames syms e t)) (pushing fresh))
+            ∙ has_arc-append arc (rows_of_tellings (closings total (dropped_track_frames syms e t))) (rows_of_tellings (pushing fresh)))
             ∙ new_one)) as (λ _. IsArcOf count arc) [
               | inl closed ↦ grown arc (from_closed arc closed)
               | inr comes ↦ from_told arc comes
@@ -221,5 +221,5 @@ module _ (callers : ℕ) (cs : List Context) (syms : SymbolMap) (e : Event) (cos
       ]
 
   pub sound_after : IsSound callers (contexts_after callers cs (change syms e t.stack))
-      (seen_on callers cs syms e cost t)
+      (track_after_event callers cs syms e cost t)
   sound_after = record { sums = sums; numbered = numbered_after; lines = lines_after; arcs = arcs_after }

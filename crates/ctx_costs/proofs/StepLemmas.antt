@@ -5,15 +5,15 @@ use Rattle.event_costs.specs.declared.event.Event.{Event}
 use Rattle.event_costs.specs.declared.numbers.FuncId.{FuncId}
 use Rattle.event_costs.specs.Keys.{Place}
 use Rattle.sym_map.specs.SymbolMap.{SymbolMap, place_of}
-use Rattle.shadow_stack.specs.Changes.{Change, change, entered, unchanged}
+use Rattle.shadow_stack.specs.Changes.{Change, change, new_activation, no_change}
 use Rattle.shadow_stack.specs.Frames.{stack}
 use Rattle.shadow_stack.specs.Stacks.{Activation}
 use Rattle.shadow_stack.specs.declared.frame.Frame.{Frame}
 use Rattle.recorder.proofs.EnteredLemmas.{IsPushed}
 use Rattle.ctx_rows.specs.Contexts.{Context, context, context_at, number, with_context}
 use Rattle.ctx_rows.specs.Telling.{CanCount}
-use Rattle.ctx_rows.specs.States.{Track, contexts_after, contexts_with, entered_frame, kept, pushed, pushed_frame}
-use Rattle.ctx_rows.specs.States.{seen_on, top_number}
+use Rattle.ctx_rows.specs.States.{Track, contexts_after, contexts_with, entered_frame, kept_track_frames, pushed_track_frame, pushed_frame}
+use Rattle.ctx_rows.specs.States.{track_after_event, top_number}
 use Rattle.ctx_rows.specs.Tracks.{AreNumbered}
 use Rattle.ctx_rows.proofs.FrameLemmas.{cut_again, numbered_kept, numbered_top, read_there, within_list}
 use Rattle.ctx_costs.specs.inner.Tracks.{Book, IsKept, IsSound, frames_of, track_of}
@@ -43,7 +43,7 @@ counted n = record {
   event = n.event;
   cost = n.cost;
   spot = place_of n.syms n.event.done.pc;
-  fresh = pushed n.callers n.contexts n.syms n.event (track_of n.old);
+  fresh = pushed_track_frame n.callers n.contexts n.syms n.event (track_of n.old);
   at = n.at;
   old = n.old;
   mid = n.mid;
@@ -51,8 +51,8 @@ counted n = record {
   live = n.live;
   can = n.can;
   comes = note.some_mapped (λ (a : Activation). entered_frame (place_of n.syms n.event.done.pc)
-      (kept n.syms n.event (track_of n.old)) (number n.contexts
-      (context n.callers (a ∷ (change n.syms n.event (stack n.old.stack.frames)).kept))))
+      (kept_track_frames n.syms n.event (track_of n.old)) (number n.contexts
+      (context n.callers (a ∷ (change n.syms n.event (stack n.old.stack.frames)).rest))))
       (change n.syms n.event (stack n.old.stack.frames)).pushed;
   at_is = n.at_is;
   is = n.is;
@@ -85,12 +85,12 @@ module _ (n : Noted) where
   module _ (left : Book) (goes : IsLeft n.syms n.event n.mid left) where
     -- where no frame comes
     module _ (none : (change n.syms n.event (stack n.old.stack.frames)).pushed ≡ None) where
-      pub left_track : track_of left ≡ seen_on n.callers n.contexts n.syms n.event n.cost (track_of n.old)
+      pub left_track : track_of left ≡ track_after_event n.callers n.contexts n.syms n.event n.cost (track_of n.old)
       left_track = (note.left_stepped (counted n) left goes none).track
 
       pub left_contexts : n.contexts
           ≡ contexts_after n.callers n.contexts (change n.syms n.event (stack n.old.stack.frames))
-      left_contexts = sym (ap (λ (p : Option Activation). contexts_with callers cs p made.kept) none)
+      left_contexts = sym (ap (λ (p : Option Activation). contexts_with callers cs p made.rest) none)
 
       pub left_kept : IsKept n.callers n.contexts left
       left_kept =
@@ -100,45 +100,45 @@ module _ (n : Noted) where
     -- where a frame comes
     module _ (p : IsPushed n.syms n.event (track_of n.old).stack) where
       abbrev a : Activation
-      a = entered n.syms n.event p.kind (p.caller ∷ p.under)
+      a = new_activation n.syms n.event p.kind (p.caller ∷ p.under)
 
       -- the context that is entered
       abbrev pub context_entered : Context
       context_entered =
-          context n.callers (entered n.syms n.event p.kind (p.caller ∷ p.under)
-          ∷ (change n.syms n.event (stack n.old.stack.frames)).kept)
+          context n.callers (new_activation n.syms n.event p.kind (p.caller ∷ p.under)
+          ∷ (change n.syms n.event (stack n.old.stack.frames)).rest)
 
-      kept_numbered : AreNumbered callers cs (kept n.syms n.event t) made.kept
+      kept_numbered : AreNumbered callers cs (kept_track_frames n.syms n.event t) made.rest
       kept_numbered = numbered_kept callers cs n.syms n.event t n.kept.sound.numbered
 
-      top_is : slice_get cs (top_number (frames_of left)).0 ≡ Some (context callers made.kept)
+      top_is : slice_get cs (top_number (frames_of left)).0 ≡ Some (context callers made.rest)
       top_is =
           ap (λ (fs : List Frame). slice_get cs (top_number fs).0) (note.frames_left (counted n) left goes)
-          ∙ numbered_top callers cs (kept n.syms n.event t) made.kept kept_numbered
+          ∙ numbered_top callers cs (kept_track_frames n.syms n.event t) made.rest kept_numbered
           (note.some_kept (counted n) left goes p)
 
       pub top_within : (top_number (frames_of left)).0 < length n.contexts
-      top_within = within_list cs (top_number (frames_of left)).0 (context callers made.kept) top_is
+      top_within = within_list cs (top_number (frames_of left)).0 (context callers made.rest) top_is
 
       pub context_is : (top : FuncId) (next : Place) (beneath new : Context) → top ≡ top_number (frames_of left)
           → next ≡ place_of n.syms n.event.done.next → beneath ≡ context_at n.contexts top
           → new ≡ take (n.callers + 1) (next.func.0 ∷ beneath) → new ≡ context_entered
       context_is top next beneath new top_ next_ beneath_ new_ =
           let under = beneath_ ∙ ap (context_at cs) top_
-          ∙ read_there cs (top_number (frames_of left)).0 (context callers made.kept) top_is in
+          ∙ read_there cs (top_number (frames_of left)).0 (context callers made.rest) top_is in
           new_ ∙ (λ i. take (callers + 1) ((next_ i).func.0 ∷ under i))
           ∙ cut_again callers (place_of n.syms n.event.done.next).func.0
-          (map (λ (b : Activation). b.func.0) made.kept)
+          (map (λ (b : Activation). b.func.0) made.rest)
 
       pub entered_contexts : with_context n.contexts context_entered
           ≡ contexts_after n.callers n.contexts (change n.syms n.event (stack n.old.stack.frames))
-      entered_contexts = sym (ap (λ (q : Option Activation). contexts_with callers cs q made.kept) p.pushed)
+      entered_contexts = sym (ap (λ (q : Option Activation). contexts_with callers cs q made.rest) p.pushed)
 
-      is_fresh : pushed callers cs n.syms n.event t
-          ≡ Some (entered_frame (place_of n.syms n.event.done.pc) (kept n.syms n.event t) (number cs context_entered))
+      is_fresh : pushed_track_frame callers cs n.syms n.event t
+          ≡ Some (entered_frame (place_of n.syms n.event.done.pc) (kept_track_frames n.syms n.event t) (number cs context_entered))
       is_fresh =
           ap (λ (q : Option Activation). pushed_frame callers cs (place_of n.syms n.event.done.pc)
-          (kept n.syms n.event t) (record { kept = made.kept; pushed = q })) p.pushed
+          (kept_track_frames n.syms n.event t) (record { rest = made.rest; pushed = q })) p.pushed
 
       module _ (m : FuncId) (new : Book) (m_is : m ≡ number n.contexts context_entered)
           (comes : IsEntered n.at m left new) where
@@ -146,9 +146,9 @@ module _ (n : Noted) where
         stepped =
             note.new_stepped (counted n) left goes p m new
             (is_fresh ∙ ap (λ (k : FuncId). Some (entered_frame (place_of n.syms n.event.done.pc)
-            (kept n.syms n.event t) k)) (sym m_is)) comes
+            (kept_track_frames n.syms n.event t) k)) (sym m_is)) comes
 
-        pub new_track : track_of new ≡ seen_on n.callers n.contexts n.syms n.event n.cost (track_of n.old)
+        pub new_track : track_of new ≡ track_after_event n.callers n.contexts n.syms n.event n.cost (track_of n.old)
         new_track = stepped.track
 
         pub new_kept : IsKept n.callers
@@ -156,14 +156,14 @@ module _ (n : Noted) where
         new_kept = kept_after new stepped
 
   -- where the event leaves the stack as it is
-  module _ (stays : change n.syms n.event (stack n.old.stack.frames) ≡ unchanged (stack n.old.stack.frames)) where
+  module _ (stays : change n.syms n.event (stack n.old.stack.frames) ≡ no_change (stack n.old.stack.frames)) where
     still : IsLeft n.syms n.event n.mid n.mid
     still = note.none_left_of n.syms n.event n.old n.mid n.is.stack stays n.kept.starts
 
     none : made.pushed ≡ None
     none = ap (λ (h : Change). h.pushed) stays
 
-    pub plain_track : track_of n.mid ≡ seen_on n.callers n.contexts n.syms n.event n.cost (track_of n.old)
+    pub plain_track : track_of n.mid ≡ track_after_event n.callers n.contexts n.syms n.event n.cost (track_of n.old)
     plain_track = left_track n.mid still none
 
     pub plain_kept : IsKept n.callers n.contexts n.mid

@@ -9,9 +9,9 @@ use Rattle.arc_costs.specs.Arcs.{add_arc, add_arcs, has_arc}
 use Rattle.arc_costs.specs.Contents.{Contents}
 use Rattle.event_costs.specs.Order.{same_arc}
 use Rattle.arc_costs.specs.Rows.{ArcRow}
-use Rattle.recorder.specs.Notes.{told_rows}
-use Rattle.recorder.specs.inner.Tellers.{CanTell, IsKeyed, RowsTold}
-use Rattle.recorder.specs.inner.TellerLaws.{count_pushes-append, told_calls-append, told_costs-append, told_rows-append}
+use Rattle.recorder.specs.Notes.{rows_of_tellings}
+use Rattle.recorder.specs.inner.Tellers.{CanTell, IsKeyed, RowsAfterTellings}
+use Rattle.recorder.specs.inner.TellerLaws.{count_pushes-append, telling_calls-append, telling_costs-append, rows_of_tellings-append}
 
 or_assoc : (a b c : Bool) → (a || b) || c ≡ a || (b || c)
 or_assoc true b c = refl
@@ -24,20 +24,20 @@ has_arc-append arc (r ∷ rs) qs =
     ∙ sym (or_assoc (same_arc arc r.arc) (has_arc arc rs) (has_arc arc qs))
 
 -- one list of tellings after another
-pub told_on : (old mid new : Contents) (ts us : List Telling) → RowsTold old ts mid → RowsTold mid us new
-    → RowsTold old (ts ++ us) new
+pub told_on : (old mid new : Contents) (ts us : List Telling) → RowsAfterTellings old ts mid → RowsAfterTellings mid us new
+    → RowsAfterTellings old (ts ++ us) new
 told_on old mid new ts us one more = record {
-  arcs = more.arcs ∙ ap (λ (rs : List ArcRow). add_arcs rs (told_rows us)) one.arcs
-      ∙ sym (ap (add_arcs old.arcs) (told_rows-append ts us)
-      ∙ fold-append add_arc old.arcs (told_rows ts) (told_rows us));
+  arcs = more.arcs ∙ ap (λ (rs : List ArcRow). add_arcs rs (rows_of_tellings us)) one.arcs
+      ∙ sym (ap (add_arcs old.arcs) (rows_of_tellings-append ts us)
+      ∙ fold-append add_arc old.arcs (rows_of_tellings ts) (rows_of_tellings us));
   lines = more.lines ∙ one.lines;
-  costs = λ kind arc. let all = told_costs-append kind arc ts us in
+  costs = λ kind arc. let all = telling_costs-append kind arc ts us in
       omega (arith, all, one.costs kind arc, more.costs kind arc);
-  calls = λ arc. let all = told_calls-append arc ts us in omega (arith, all, one.calls arc, more.calls arc);
-  keys = λ arc. more.keys arc ∙ ap (λ b. b || has_arc arc (told_rows us)) (one.keys arc)
-      ∙ or_assoc (has_arc arc old.arcs) (has_arc arc (told_rows ts)) (has_arc arc (told_rows us))
+  calls = λ arc. let all = telling_calls-append arc ts us in omega (arith, all, one.calls arc, more.calls arc);
+  keys = λ arc. more.keys arc ∙ ap (λ b. b || has_arc arc (rows_of_tellings us)) (one.keys arc)
+      ∙ or_assoc (has_arc arc old.arcs) (has_arc arc (rows_of_tellings ts)) (has_arc arc (rows_of_tellings us))
       ∙ ap (λ b. has_arc arc old.arcs || b)
-      (sym (ap (has_arc arc) (told_rows-append ts us) ∙ has_arc-append arc (told_rows ts) (told_rows us)));
+      (sym (ap (has_arc arc) (rows_of_tellings-append ts us) ∙ has_arc-append arc (rows_of_tellings ts) (rows_of_tellings us)));
   line_room = more.line_room ∙ one.line_room;
   arc_room = let all = count_pushes-append ts us in omega (arith, all, one.arc_room, more.arc_room);
 }
@@ -56,14 +56,14 @@ still_keyed old new added keys (Closed arc cost ∷ ts) all =
     (keys arc ∙ ap (λ b. b || added arc) all.0, still_keyed old new added keys ts all.1)
 
 -- what can be told after the first of two lists
-pub can_rest : (old new : Contents) (ts us : List Telling) → CanTell old (ts ++ us) → RowsTold old ts new
+pub can_rest : (old new : Contents) (ts us : List Telling) → CanTell old (ts ++ us) → RowsAfterTellings old ts new
     → CanTell new us
 can_rest old new ts us can told = record {
   room = let more = count_pushes-append ts us in omega (arith, more, can.room, told.arc_room);
   keyed =
-      still_keyed old.arcs new.arcs (λ arc. has_arc arc (told_rows ts)) told.keys us
+      still_keyed old.arcs new.arcs (λ arc. has_arc arc (rows_of_tellings ts)) told.keys us
       (keyed_rest old.arcs ts us can.keyed);
-  costs = λ kind arc. let more = told_costs-append kind arc ts us in
+  costs = λ kind arc. let more = telling_costs-append kind arc ts us in
       omega (arith, more, can.costs kind arc, told.costs kind arc);
-  calls = λ arc. let more = told_calls-append arc ts us in omega (arith, more, can.calls arc, told.calls arc);
+  calls = λ arc. let more = telling_calls-append arc ts us in omega (arith, more, can.calls arc, told.calls arc);
 }

@@ -4,8 +4,8 @@ ghost use Rattle.std.specs.Prelude.{◌≡◌, ◌∷◌, ◌<◌, ◌≤◌, []
 ghost use Rattle.ctx_costs.specs.inner.Keys.{IsCut, digit_at, equal_keys, few_digits, listed};
 
 use arc_costs::Digits;
-use ctx_rows::FuncList;
 use byte_text::OutOfMemory;
+use ctx_rows::FuncList;
 use event_costs::FuncId;
 use std::alloc::Global;
 

@@ -7,8 +7,8 @@ ghost use Rattle.ctx_costs.specs.inner.Keys.{IsCut, listed};
 
 use crate::context::Context;
 use arc_costs::KeyTree;
-use ctx_rows::FuncList;
 use byte_text::OutOfMemory;
+use ctx_rows::FuncList;
 use event_costs::ContextNo;
 use std::alloc::Global;
 use std::marker::Model;

@@ -3,7 +3,7 @@
 ghost use Rattle.std.specs.Prelude.{◌≡◌, ◌≤◌};
 ghost use Rattle.std.specs.List.{AllZip};
 ghost use Rattle.event_costs.specs.Costs.{difference_of_costs};
-ghost use Rattle.shadow_stack.specs.Frames.{restarted_at};
+ghost use Rattle.shadow_stack.specs.Frames.{restarted_frame};
 
 use event_costs::{ArcKey, Cost, Number};
 use shadow_stack::Kind;
@@ -67,7 +67,7 @@ impl<N: Number> Entered<N> {
 
     /// Has it start at this total.
     pub(crate) fn restart(&mut self, total: &Cost)
-        ensures { self.new ≡ restarted_at total.now self.old }
+        ensures { self.new ≡ restarted_frame total.now self.old }
     {
         self.start = *total;
     }

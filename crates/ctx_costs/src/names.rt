@@ -11,8 +11,8 @@ ghost use Rattle.ctx_rows.specs.Tracks.{IsArcOf, IsNumber};
 use crate::contexts::Contexts;
 use crate::sorting::{by_arc, by_line};
 use arc_costs::{ArcRow, LineRow, TableRows};
-use ctx_rows::{CtxArc, CtxLine, CtxRows};
 use byte_text::OutOfMemory;
+use ctx_rows::{CtxArc, CtxLine, CtxRows};
 use event_costs::{ContextNo, ThreadNo};
 use std::alloc::Global;
 

@@ -2,12 +2,12 @@
 
 ghost use Rattle.std.specs.Prelude.{◌≡◌, ℕ, ◌<◌, ◌≤◌, List, length, true};
 ghost use Rattle.sym_map.specs.SymbolMap.{place_of};
-ghost use Rattle.shadow_stack.specs.Changes.{change, unchanged};
+ghost use Rattle.shadow_stack.specs.Changes.{change, no_change};
 ghost use Rattle.shadow_stack.specs.Frames.{stack};
 ghost use Rattle.arc_costs.specs.Lines.{has_line};
 ghost use Rattle.ctx_rows.specs.Contexts.{Context};
 ghost use Rattle.ctx_rows.specs.Telling.{CanCount};
-ghost use Rattle.ctx_rows.specs.States.{contexts_after, seen_on, top_number};
+ghost use Rattle.ctx_rows.specs.States.{contexts_after, track_after_event, top_number};
 ghost use Rattle.ctx_costs.specs.inner.Tracks.{IsKept, IsRoomy, frames_of, track_of};
 
 use crate::contexts::Contexts;
@@ -36,7 +36,7 @@ pub(crate) fn note(
     requires live { 0 < length track.old.stack.frames }
     requires sums { CanCount (track_of track.old) cost.now }
     ensures track { track_of track.new
-        ≡ seen_on callers contexts.old.contexts syms.now event.now cost.now (track_of track.old) }
+        ≡ track_after_event callers contexts.old.contexts syms.now event.now cost.now (track_of track.old) }
     ensures contexts { contexts.new.contexts ≡ contexts_after callers contexts.old.contexts
         (change syms.now event.now (stack track.old.stack.frames)) }
     ensures kept { IsKept callers contexts.new.contexts track.new }
@@ -59,7 +59,7 @@ pub(crate) fn note(
 pub(crate) fn is_plain(track: &Track, looked: usize, event: &Event, syms: &SymMap) -> bool
     requires live { 0 < length track.now.frames.items }
     ensures stays { result ≡ true → change syms.now event.now (stack track.now.stack.frames)
-        ≡ unchanged (stack track.now.stack.frames) }
+        ≡ no_change (stack track.now.stack.frames) }
     ensures there { result ≡ true → has_line (record {
       func = top_number (frames_of track.now);
       file = (place_of syms.now event.now.done.pc).file;
@@ -69,7 +69,7 @@ pub(crate) fn is_plain(track: &Track, looked: usize, event: &Event, syms: &SymMa
     if !track.stays(event, syms) {
         return false;
     }
-    let Some(at) = syms.indexed(event.done.pc) else {
+    let Some(at) = syms.indexed_place(event.done.pc) else {
         return false;
     };
     track.has_row_at(looked, at)
@@ -90,7 +90,7 @@ pub(crate) fn note_plain(
     requires frames { 0 < length track.old.frames.items }
     requires sums { CanCount (track_of track.old) ones.now }
     requires stays { change syms.now event.now (stack track.old.stack.frames)
-        ≡ unchanged (stack track.old.stack.frames) }
+        ≡ no_change (stack track.old.stack.frames) }
     requires there { has_line (record {
       func = top_number (frames_of track.old);
       file = (place_of syms.now event.now.done.pc).file;
@@ -98,7 +98,7 @@ pub(crate) fn note_plain(
     }) track.old.rows.lines ≡ true }
     ensures track { (callers : ℕ) (contexts : List Context) → IsKept callers contexts track.old
         → track_of track.new
-        ≡ seen_on callers contexts syms.now event.now ones.now (track_of track.old) }
+        ≡ track_after_event callers contexts syms.now event.now ones.now (track_of track.old) }
     ensures contexts { (callers : ℕ) (contexts : List Context) → contexts
         ≡ contexts_after callers contexts (change syms.now event.now (stack track.old.stack.frames)) }
     ensures kept { (callers : ℕ) (contexts : List Context) → IsKept callers contexts track.old

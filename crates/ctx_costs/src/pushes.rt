@@ -15,7 +15,7 @@ impl ArcSink for Pushes {
 
     ghost can_take = { λ p ts. Unit {0} };
 
-    ghost told = { Tells };
+    ghost takes = { Tells };
 
     fn pushed(&mut self, _arc: &ArcKey) {
         self.any = true;

@@ -9,16 +9,16 @@ ghost use Rattle.event_costs.specs.Keys.{ArcKey as ArcKeyValue, Place as PlaceVa
 ghost use Rattle.arc_costs.specs.Arcs.{arc_sum, call_sum, cleared_arcs};
 ghost use Rattle.arc_costs.specs.Lines.{add_line, cleared_lines, has_line, line, line_index, line_sum};
 ghost use Rattle.event_costs.specs.Order.{same_place};
-ghost use Rattle.recorder.specs.Notes.{open_sum, told_rows};
+ghost use Rattle.recorder.specs.Notes.{open_sum, rows_of_tellings};
 ghost use Rattle.recorder.specs.inner.Books.{AreKeyed, AreRowsIn};
-ghost use Rattle.recorder.specs.inner.Tellers.{CanTell, RowsTold};
+ghost use Rattle.recorder.specs.inner.Tellers.{CanTell, RowsAfterTellings};
 ghost use Rattle.recorder.specs.Standing.{IsCutOf};
 ghost use Rattle.sym_map.specs.SymbolMap.{place_of};
-ghost use Rattle.shadow_stack.specs.Changes.{after, change, gone, unchanged};
-ghost use Rattle.shadow_stack.specs.Frames.{StartWithin, closing, closings, restarted, stack};
+ghost use Rattle.shadow_stack.specs.Changes.{after, change, drop_count, no_change};
+ghost use Rattle.shadow_stack.specs.Frames.{StartWithin, closing, closings, restarted_frames, stack};
 ghost use Rattle.shadow_stack.specs.Stacks.{is_rooted};
 ghost use Rattle.shadow_stack.specs.declared.frame.Kind.TheVariants.{Jump};
-ghost use Rattle.ctx_rows.specs.States.{begun, entering_arc, top_number};
+ghost use Rattle.ctx_rows.specs.States.{first_track, entering_arc, top_number};
 ghost use Rattle.ctx_costs.specs.inner.Tracks.{IsRoomy, SameThread, frames_of, track_of};
 ghost use Rattle.ctx_rows.specs.Tracks.{account_of};
 
@@ -53,7 +53,7 @@ impl<N: Number> Track<N> {
         func: FuncId,
         number: N,
     ) -> Result<Track<N>, OutOfMemory>
-        ensures track { IfOk result (λ b. track_of b ≡ begun thread func (N.number number)) }
+        ensures track { IfOk result (λ b. track_of b ≡ first_track thread func (N.number number)) }
         ensures starts { IfOk result (λ b. StartWithin no_cost b.stack.frames) }
         ensures room { IfOk result IsRoomy }
     {
@@ -166,12 +166,12 @@ impl<N: Number> Track<N> {
     #[inline(always)]
     pub fn stays(&self, event: &Event, syms: &SymMap) -> bool
         ensures { result ≡ true → change syms.now event.now (stack self.now.stack.frames)
-            ≡ unchanged (stack self.now.stack.frames) }
+            ≡ no_change (stack self.now.stack.frames) }
     {
         let Some(top) = self.stack.top() else {
             return false;
         };
-        let Some(next) = syms.indexed(event.done.next) else {
+        let Some(next) = syms.indexed_place(event.done.next) else {
             return false;
         };
         goes_on(event, top, next.func)
@@ -187,13 +187,13 @@ impl<N: Number> Track<N> {
         requires as_many { length self.old.frames.items ≡ length self.old.stack.frames }
         requires starts { StartWithin self.old.total (frames_of self.old) }
         requires can { CanTell self.old.rows (closings self.old.total
-            (take (gone syms.now event.now (stack self.old.stack.frames)) (frames_of self.old))) }
+            (take (drop_count syms.now event.now (stack self.old.stack.frames)) (frames_of self.old))) }
         ensures pushed { result ≡ is_some (change syms.now event.now (stack self.old.stack.frames)).pushed }
         ensures stack { stack self.new.stack.frames ≡ after syms.now (stack self.old.stack.frames) event.now }
         ensures frames { frames_of self.new
-            ≡ drop (gone syms.now event.now (stack self.old.stack.frames)) (frames_of self.old) }
-        ensures told { RowsTold self.old.rows (closings self.old.total
-            (take (gone syms.now event.now (stack self.old.stack.frames)) (frames_of self.old))) self.new.rows }
+            ≡ drop (drop_count syms.now event.now (stack self.old.stack.frames)) (frames_of self.old) }
+        ensures told { RowsAfterTellings self.old.rows (closings self.old.total
+            (take (drop_count syms.now event.now (stack self.old.stack.frames)) (frames_of self.old))) self.new.rows }
         ensures stack_starts { StartWithin no_cost self.new.stack.frames }
         ensures same { SameThread self.old self.new }
         ensures frame_room { vec_capacity self.new.frames ≡ vec_capacity self.old.frames }
@@ -215,13 +215,13 @@ impl<N: Number> Track<N> {
         requires as_many { length self.old.frames.items ≡ length self.old.stack.frames }
         requires starts { StartWithin self.old.total (frames_of self.old) }
         requires can { CanTell self.old.rows (closings self.old.total
-            (take (gone syms.now event.now (stack self.old.stack.frames)) (frames_of self.old))) }
+            (take (drop_count syms.now event.now (stack self.old.stack.frames)) (frames_of self.old))) }
         ensures pushed { result ≡ is_some (change syms.now event.now (stack self.old.stack.frames)).pushed }
         ensures stack { stack self.new.stack.frames ≡ after syms.now (stack self.old.stack.frames) event.now }
         ensures frames { frames_of self.new
-            ≡ drop (gone syms.now event.now (stack self.old.stack.frames)) (frames_of self.old) }
-        ensures told { RowsTold self.old.rows (closings self.old.total
-            (take (gone syms.now event.now (stack self.old.stack.frames)) (frames_of self.old))) self.new.rows }
+            ≡ drop (drop_count syms.now event.now (stack self.old.stack.frames)) (frames_of self.old) }
+        ensures told { RowsAfterTellings self.old.rows (closings self.old.total
+            (take (drop_count syms.now event.now (stack self.old.stack.frames)) (frames_of self.old))) self.new.rows }
         ensures stack_starts { StartWithin no_cost self.new.stack.frames }
         ensures same { SameThread self.old self.new }
         ensures frame_room { vec_capacity self.new.frames ≡ vec_capacity self.old.frames }
@@ -240,7 +240,7 @@ impl<N: Number> Track<N> {
         requires can { CanTell self.old.rows
             (closings self.old.total (take (length self.old.frames.items - kept) (frames_of self.old))) }
         ensures frames { frames_of self.new ≡ drop (length self.old.frames.items - kept) (frames_of self.old) }
-        ensures told { RowsTold self.old.rows
+        ensures told { RowsAfterTellings self.old.rows
             (closings self.old.total (take (length self.old.frames.items - kept) (frames_of self.old))) self.new.rows }
         ensures stack { self.new.stack ≡ self.old.stack }
         ensures same { SameThread self.old self.new }
@@ -265,7 +265,7 @@ impl<N: Number> Track<N> {
           kind = Jump;
           start = self.old.total;
         } ∷ frames_of self.old }
-        ensures told { RowsTold self.old.rows (Pushed (entering_arc at (top_number (frames_of self.old)) (N.number number)) ∷ [])
+        ensures told { RowsAfterTellings self.old.rows (Pushed (entering_arc at (top_number (frames_of self.old)) (N.number number)) ∷ [])
             self.new.rows }
         ensures stack { self.new.stack ≡ self.old.stack }
         ensures same { SameThread self.old self.new }
@@ -291,7 +291,7 @@ impl<N: Number> Track<N> {
     fn open_rows(&self) -> Result<TableRows<N>, OutOfMemory>
         requires starts { StartWithin self.now.total self.now.frames.items }
         ensures lines { IfOk result (λ rows. rows.lines ≡ []) }
-        ensures arcs { IfOk result (λ rows. rows.arcs ≡ told_rows (closings self.now.total self.now.frames.items)) }
+        ensures arcs { IfOk result (λ rows. rows.arcs ≡ rows_of_tellings (closings self.now.total self.now.frames.items)) }
     {
         let lines = Vec::new(self.alloc);
         let mut arcs = Vec::new(self.alloc);
@@ -329,7 +329,7 @@ impl<N: Number> Track<N> {
 
     /// Has all rows count from 0, and the open frames start anew.
     pub fn cut(&mut self)
-        ensures frames { frames_of self.new ≡ restarted self.old.total (frames_of self.old) }
+        ensures frames { frames_of self.new ≡ restarted_frames self.old.total (frames_of self.old) }
         ensures lines { self.new.rows.lines ≡ cleared_lines self.old.rows.lines }
         ensures arcs { self.new.rows.arcs ≡ cleared_arcs self.old.rows.arcs }
         ensures line_room { self.new.rows.line_room ≡ self.old.rows.line_room }
@@ -360,7 +360,7 @@ fn kept_of(depth: usize, pushed: bool) -> usize
 fn give<N: Number>(rows: &mut Tables<N>, frame: &Entered<N>, total: &Cost)
     requires starts { AllZip (λ t s. s ≤ t) total.now frame.now.start }
     requires can { CanTell rows.old (closing total.now frame.now) }
-    ensures told { RowsTold rows.old (closing total.now frame.now) rows.new }
+    ensures told { RowsAfterTellings rows.old (closing total.now frame.now) rows.new }
 {
     if let Some(arc) = frame.arc() {
         rows.add_arc(&arc, &frame.cost(total));

@@ -40,10 +40,10 @@ pub struct CtxCosts {
 
 impl Model for CtxCosts {
     ghost use Rattle.std.specs.Prelude.{None, if◌then◌else◌, map};
-    ghost use Rattle.ctx_rows.specs.States.{State};
+    ghost use Rattle.ctx_rows.specs.States.{CtxState};
     ghost use Rattle.ctx_costs.specs.inner.Tracks.{IsWatching, track_of};
 
-    ghost Value = { State };
+    ghost Value = { CtxState };
 
     ghost view = { λ w. record {
       callers = w.callers;
@@ -163,7 +163,7 @@ impl CtxCosts {
     /// What `ready` does where room may be wanting.
     #[cold]
     #[inline(never)]
-    fn make_ready(&mut self, thread: ThreadNo, pc: u32, syms: &SymMap) -> Result<(), OutOfMemory>
+    fn ready_cold(&mut self, thread: ThreadNo, pc: u32, syms: &SymMap) -> Result<(), OutOfMemory>
         ensures ok { OnOk result (self.new ≡ after_ready self.old thread pc syms.now) }
         ensures err { OnErr result (self.new ≡ self.old) }
     {
@@ -192,7 +192,7 @@ impl CtxCosts {
     /// cold for the loop of a run, most of which aren't watched so.
     #[cold]
     #[inline(never)]
-    fn see(&mut self, event: &Event, ones: &Ones, syms: &SymMap)
+    fn seen_by_kinds(&mut self, event: &Event, ones: &Ones, syms: &SymMap)
         requires { CanSee self.old event.now ones.now }
         ensures { self.new ≡ after_seen self.old event.now ones.now syms.now }
     {
@@ -201,7 +201,7 @@ impl CtxCosts {
         };
         let looked = self.near.of(event, self.tracks[place].top().low());
         if !is_plain(&self.tracks[place], looked, event, syms) {
-            return self.see_any(event, &ones.cost(), syms);
+            return self.seen_cold(event, &ones.cost(), syms);
         }
         note_plain(&mut self.tracks[place], looked, event, ones, syms);
         self.stepped = true;
@@ -210,7 +210,7 @@ impl CtxCosts {
     /// What `seen` does.
     #[cold]
     #[inline(never)]
-    fn see_any(&mut self, event: &Event, cost: &Cost, syms: &SymMap)
+    fn seen_cold(&mut self, event: &Event, cost: &Cost, syms: &SymMap)
         requires { CanSee self.old event.now cost.now }
         ensures { self.new ≡ after_seen self.old event.now cost.now syms.now }
     {
@@ -252,7 +252,7 @@ impl Watch for CtxCosts {
             self.stepped = false;
             return Ok(());
         }
-        self.make_ready(thread, pc, syms)
+        self.ready_cold(thread, pc, syms)
     }
 
     // It hands on copies, whose addresses the loop of a run needn't keep.
@@ -267,10 +267,10 @@ impl Watch for CtxCosts {
     ) {
         let event = event.copied();
         match ones_of(cost) {
-            Some(ones) => self.see(&event, &ones, syms),
+            Some(ones) => self.seen_by_kinds(&event, &ones, syms),
             None => {
                 let cost = *cost;
-                self.see_any(&event, &cost, syms)
+                self.seen_cold(&event, &cost, syms)
             }
         }
     }

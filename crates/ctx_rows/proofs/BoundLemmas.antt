@@ -11,7 +11,7 @@ use Rattle.event_costs.specs.Keys.{ArcKey, Place}
 use Rattle.event_costs.specs.declared.numbers.FuncId.{FuncId}
 use Rattle.event_costs.specs.declared.numbers.ThreadNo.{ThreadNo}
 use Rattle.sym_map.specs.SymbolMap.{SymbolMap, place_of}
-use Rattle.shadow_stack.specs.Changes.{gone}
+use Rattle.shadow_stack.specs.Changes.{drop_count}
 use Rattle.shadow_stack.specs.Frames.{activation, closing, closings, pushing, stack}
 use Rattle.shadow_stack.specs.Stacks.{Activation}
 use Rattle.shadow_stack.specs.declared.frame.Frame.{Frame}
@@ -22,16 +22,16 @@ use Rattle.arc_costs.specs.Rows as rows
 use Rattle.arc_costs.specs.Rows.{ArcRow, LineRow}
 use Rattle.arc_costs.proofs.RowLemmas.{sum_at_one, zero_replicate}
 use Rattle.recorder.specs.Bounds.{IsUnit, SumsWithin}
-use Rattle.recorder.specs.Notes.{open_sum, told_rows}
+use Rattle.recorder.specs.Notes.{open_sum, rows_of_tellings}
 use Rattle.recorder.specs.Sums.{entered_by, is_arc}
-use Rattle.recorder.specs.inner.TellerLaws.{told_calls-append, told_costs-append}
+use Rattle.recorder.specs.inner.TellerLaws.{telling_calls-append, telling_costs-append}
 use Rattle.recorder.proofs.BoundLemmas.{open_sum-below, sum_below, pushes_one}
 use Rattle.recorder.proofs.SumLemmas.{closings_calls, open_sum-cons, open_sum-split, open_sum-with, pushing_calls, pushing_costs}
 use Rattle.recorder.proofs.ArcRowLemmas.{arc_alike}
 use Rattle.recorder.proofs.LineLemmas.{place_alike}
 use Rattle.ctx_rows.specs.Contexts.{Context}
 use Rattle.ctx_rows.specs.Telling.{CanCount}
-use Rattle.ctx_rows.specs.States.{Track, begun, dropped, kept, pushed, seen_on, top_number}
+use Rattle.ctx_rows.specs.States.{Track, first_track, dropped_track_frames, kept_track_frames, pushed_track_frame, track_after_event, top_number}
 use Rattle.ctx_rows.specs.Tracks.{account_of}
 
 -- ---- a row more
@@ -133,7 +133,7 @@ if_below true m n less = less
 if_below false m n less = omega arith
 
 closing_below : (kind : ℕ) (total : List ℕ) (arc : ArcKey) (f : Frame) (from : Option ArcKey)
-    → arc_sum kind arc (told_rows (option_map_or (λ key. Closed key (difference_of_costs total f.start) ∷ []) from []))
+    → arc_sum kind arc (rows_of_tellings (option_map_or (λ key. Closed key (difference_of_costs total f.start) ∷ []) from []))
     ≤ (if is_arc arc from then get_or total kind 0 - get_or f.start kind 0 else 0)
 closing_below kind total arc f None = omega arith
 closing_below kind total arc f (Some key) =
@@ -145,12 +145,12 @@ closing_below kind total arc f (Some key) =
     omega (arith, alone, below)
 
 pub closings_below : (kind : ℕ) (total : List ℕ) (arc : ArcKey) (fs : List Frame)
-    → arc_sum kind arc (told_rows (closings total fs)) ≤ open_sum kind total arc fs
+    → arc_sum kind arc (rows_of_tellings (closings total fs)) ≤ open_sum kind total arc fs
 closings_below kind total arc [] = omega arith
 closings_below kind total arc (f ∷ fs) =
     let here = closing_below kind total arc f f.from in
     let rest = closings_below kind total arc fs in
-    let parts = told_costs-append kind arc (closing total f) (closings total fs) in
+    let parts = telling_costs-append kind arc (closing total f) (closings total fs) in
     let sums = open_sum-cons kind total arc f fs in
     omega (arith, here, rest, parts, sums)
 
@@ -194,7 +194,7 @@ can_count t cost steps within few unit shallow = record {
 pub within_seen : (callers : ℕ) (cs : List Context) (syms : SymbolMap) (e : Event) (cost : List ℕ)
     (t : Track) (steps : ℕ)
     → SumsWithin steps (account_of t) → IsUnit cost → length t.frames ≤ 4194304
-    → SumsWithin (steps + 1) (account_of (seen_on callers cs syms e cost t))
+    → SumsWithin (steps + 1) (account_of (track_after_event callers cs syms e cost t))
 within_seen callers cs syms e cost t steps within unit shallow = record {
   total = λ kind. omega (arith, sum_below t.total cost kind, within.total kind, unit kind);
   lines =
@@ -209,14 +209,14 @@ within_seen callers cs syms e cost t steps within unit shallow = record {
         unit kind,
       );
   arcs = λ kind arc.
-      let added = arcs_added t.arcs (told_rows (closings (sum_of_costs t.total cost) (dropped syms e t)
-      ++ pushing (pushed callers cs syms e t))) kind arc in
-      let parts = told_costs-append kind arc (closings (sum_of_costs t.total cost) (dropped syms e t))
-      (pushing (pushed callers cs syms e t)) in
-      let closed = closings_below kind (sum_of_costs t.total cost) arc (dropped syms e t) in
-      let comes = pushing_costs kind arc (pushed callers cs syms e t) in
-      let split = open_sum-split kind (sum_of_costs t.total cost) arc (gone syms e t.stack) t.frames in
-      let with_new = open_sum-with kind (sum_of_costs t.total cost) arc (pushed callers cs syms e t) (kept syms e t) in
+      let added = arcs_added t.arcs (rows_of_tellings (closings (sum_of_costs t.total cost) (dropped_track_frames syms e t)
+      ++ pushing (pushed_track_frame callers cs syms e t))) kind arc in
+      let parts = telling_costs-append kind arc (closings (sum_of_costs t.total cost) (dropped_track_frames syms e t))
+      (pushing (pushed_track_frame callers cs syms e t)) in
+      let closed = closings_below kind (sum_of_costs t.total cost) arc (dropped_track_frames syms e t) in
+      let comes = pushing_costs kind arc (pushed_track_frame callers cs syms e t) in
+      let split = open_sum-split kind (sum_of_costs t.total cost) arc (drop_count syms e t.stack) t.frames in
+      let with_new = open_sum-with kind (sum_of_costs t.total cost) arc (pushed_track_frame callers cs syms e t) (kept_track_frames syms e t) in
       omega (
         arith,
         added,
@@ -230,18 +230,18 @@ within_seen callers cs syms e cost t steps within unit shallow = record {
         within.arcs kind arc,
       );
   calls = λ arc.
-      let added = calls_added t.arcs (told_rows (closings (sum_of_costs t.total cost) (dropped syms e t)
-      ++ pushing (pushed callers cs syms e t))) arc in
-      let parts = told_calls-append arc (closings (sum_of_costs t.total cost) (dropped syms e t))
-      (pushing (pushed callers cs syms e t)) in
-      let closed = closings_calls (sum_of_costs t.total cost) arc (dropped syms e t) in
-      let comes = pushing_calls arc (pushed callers cs syms e t) in
-      omega (arith, added, parts, closed, comes, pushes_one arc (pushed callers cs syms e t), within.calls arc);
+      let added = calls_added t.arcs (rows_of_tellings (closings (sum_of_costs t.total cost) (dropped_track_frames syms e t)
+      ++ pushing (pushed_track_frame callers cs syms e t))) arc in
+      let parts = telling_calls-append arc (closings (sum_of_costs t.total cost) (dropped_track_frames syms e t))
+      (pushing (pushed_track_frame callers cs syms e t)) in
+      let closed = closings_calls (sum_of_costs t.total cost) arc (dropped_track_frames syms e t) in
+      let comes = pushing_calls arc (pushed_track_frame callers cs syms e t) in
+      omega (arith, added, parts, closed, comes, pushes_one arc (pushed_track_frame callers cs syms e t), within.calls arc);
 }
 
 -- a thread that begins
 pub within_begun : (thread : ThreadNo) (func first : FuncId) (steps : ℕ)
-    → SumsWithin steps (account_of (begun thread func first))
+    → SumsWithin steps (account_of (first_track thread func first))
 within_begun thread func first steps = record {
   total = λ kind. let none : get_or no_cost kind 0 ≡ 0 = zero_replicate event_kinds kind in omega (arith, none);
   lines = λ kind place. omega arith;

@@ -15,10 +15,10 @@ use Rattle.sym_map.specs.SymbolMap.{SymbolMap}
 use Rattle.shadow_stack.specs.Changes.{change}
 use Rattle.shadow_stack.specs.Frames.{closings}
 use Rattle.shadow_stack.specs.Stacks.{Stack}
-use Rattle.shadow_stack.specs.Traces.{Seen}
+use Rattle.shadow_stack.specs.Traces.{EventOnStack}
 use Rattle.arc_costs.proofs.RowLemmas.{sum_at-append}
 use Rattle.recorder.specs.Laws.{IsIn}
-use Rattle.recorder.specs.Notes.{told_rows}
+use Rattle.recorder.specs.Notes.{rows_of_tellings}
 use Rattle.arc_costs.specs.Keys.{by_kind, risen}
 use Rattle.recorder.proofs.ArcRowLemmas.{either}
 use Rattle.recorder.proofs.ListLemmas.{in_flat, in_left, in_right, in_filter, to_filter}
@@ -104,10 +104,10 @@ of_stack callers k s some =
     let o = some_number (λ (from : Option CtxArcKey). if is_arc k from then 1 else 0) (ctx_arcs callers s) some in
     in_flat option_to_list (ctx_arcs callers s) o.0 k o.1 (of_option k o.0 (some_one (is_arc k o.0) o.2))
 
-module _ (callers : ℕ) (syms : SymbolMap) (xs : List Seen) where
+module _ (callers : ℕ) (syms : SymbolMap) (xs : List EventOnStack) where
   called : (k : CtxArcKey) → arc_calls callers syms k xs ≢ 0 → IsIn (flat_map (arcs_at callers syms) xs) k
   called k some =
-      let x = some_number (λ (y : Seen). if is_arc k (pushed_arc callers (change syms y.event y.stack)) then 1
+      let x = some_number (λ (y : EventOnStack). if is_arc k (pushed_arc callers (change syms y.event y.stack)) then 1
       else 0) xs some
       in
       in_flat (arcs_at callers syms) xs x.0 k x.1
@@ -117,7 +117,7 @@ module _ (callers : ℕ) (syms : SymbolMap) (xs : List Seen) where
 
   costly : (kind : ℕ) (k : CtxArcKey) → arc_cost callers kind k xs ≢ 0 → IsIn (flat_map (arcs_at callers syms) xs) k
   costly kind k some =
-      let x = some_number (λ (y : Seen). get_or y.cost kind 0 * entered_by callers k y.stack) xs some in
+      let x = some_number (λ (y : EventOnStack). get_or y.cost kind 0 * entered_by callers k y.stack) xs some in
       in_flat (arcs_at callers syms) xs x.0 k x.1
       (in_left (flat_map option_to_list (ctx_arcs callers x.0.stack))
       (option_to_list (pushed_arc callers (change syms x.0.event x.0.stack))) k
@@ -132,13 +132,13 @@ by_kind_same f g same = by (range_with_len 0 event_kinds)
 
 -- ---- the rows
 
-module _ (callers : ℕ) (cs : List Context) (syms : SymbolMap) (xs : List Seen) (t : Track)
+module _ (callers : ℕ) (cs : List Context) (syms : SymbolMap) (xs : List EventOnStack) (t : Track)
     (tracked : IsTracked callers cs syms xs t) where
   abbrev all_lines : List CtxLine
   all_lines = map (named_line cs) t.lines
 
   abbrev all_arcs : List CtxArc
-  all_arcs = map (named_arc cs) (t.arcs ++ told_rows (closings t.total t.frames))
+  all_arcs = map (named_arc cs) (t.arcs ++ rows_of_tellings (closings t.total t.frames))
 
   line_there : (p : CtxPlace) → is_some_line (line_with (λ kind q. self_cost callers syms kind q xs) p) ≡ true
       → IsIn (map place_of all_lines) p × IsIn (map (counts_at callers syms) xs) p
@@ -149,8 +149,8 @@ module _ (callers : ℕ) (cs : List Context) (syms : SymbolMap) (xs : List Seen)
       some_passes (λ (q : CtxLine). same_place p (place_of q)) (λ (q : CtxLine). get_or q.cost kind.0 0) all_lines
       (λ none. some (sym (tracked.lines kind.0 p) ∙ none)) in
       let x =
-      some_passes (λ (y : Seen). same_place p (counts_at callers syms y))
-      (λ (y : Seen). get_or y.cost kind.0 0) xs some in (
+      some_passes (λ (y : EventOnStack). same_place p (counts_at callers syms y))
+      (λ (y : EventOnStack). get_or y.cost kind.0 0) xs some in (
         subst (IsIn (map place_of all_lines)) (sym (ties.place_alike p (place_of line.0) line.2))
             (rise.in-map place_of all_lines line.0 line.1),
         subst (IsIn (map (counts_at callers syms) xs)) (sym (ties.place_alike p (counts_at callers syms x.0) x.2))
@@ -170,14 +170,14 @@ module _ (callers : ℕ) (cs : List Context) (syms : SymbolMap) (xs : List Seen)
             (λ kind. tracked.lines kind p) i;
       }) (map place_of all_lines) (map (counts_at callers syms) xs) line_there
 
-  parts : all_arcs ≡ map (named_arc cs) t.arcs ++ map (named_arc cs) (told_rows (closings t.total t.frames))
-  parts = map-append (named_arc cs) t.arcs (told_rows (closings t.total t.frames))
+  parts : all_arcs ≡ map (named_arc cs) t.arcs ++ map (named_arc cs) (rows_of_tellings (closings t.total t.frames))
+  parts = map-append (named_arc cs) t.arcs (rows_of_tellings (closings t.total t.frames))
 
   costs_are : (kind : ℕ) (k : CtxArcKey) → arc_sum kind k all_arcs ≡ arc_cost callers kind k xs
   costs_are kind k =
       let both = ap (arc_sum kind k) parts
       ∙ sum_at-append arc_of same_arc (λ (r : CtxArc). get_or r.cost kind 0) k (map (named_arc cs) t.arcs)
-      (map (named_arc cs) (told_rows (closings t.total t.frames))) in
+      (map (named_arc cs) (rows_of_tellings (closings t.total t.frames))) in
       let open_ones = opened.closings_costs cs kind t.total k t.frames tracked.starts in
       omega (arith, both, open_ones, tracked.arcs kind k)
 
@@ -185,7 +185,7 @@ module _ (callers : ℕ) (cs : List Context) (syms : SymbolMap) (xs : List Seen)
   calls_are k =
       let both = ap (call_sum k) parts
       ∙ sum_at-append arc_of same_arc (λ (r : CtxArc). r.calls) k (map (named_arc cs) t.arcs)
-      (map (named_arc cs) (told_rows (closings t.total t.frames))) in
+      (map (named_arc cs) (rows_of_tellings (closings t.total t.frames))) in
       let none = opened.closings_calls cs t.total k t.frames in
       omega (arith, both, none, tracked.calls k)
 

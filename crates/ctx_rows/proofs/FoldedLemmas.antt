@@ -19,10 +19,10 @@ use Rattle.event_costs.specs.declared.event.Event.{Event}
 use Rattle.event_costs.specs.Keys.{ArcKey, Place}
 use Rattle.event_costs.specs.declared.numbers.FuncId.{FuncId}
 use Rattle.sym_map.specs.SymbolMap.{SymbolMap, place_of}
-use Rattle.shadow_stack.specs.Changes.{change, entered}
+use Rattle.shadow_stack.specs.Changes.{change, new_activation}
 use Rattle.shadow_stack.specs.Stacks.{Activation, Stack, top_of}
 use Rattle.shadow_stack.specs.Kinds.{is_root}
-use Rattle.shadow_stack.specs.Traces.{Seen}
+use Rattle.shadow_stack.specs.Traces.{EventOnStack}
 use Rattle.shadow_stack.specs.declared.frame.Kind.{Kind}
 use Rattle.arc_costs.specs.Arcs as arcs
 use Rattle.arc_costs.specs.Contents.{Listed}
@@ -294,7 +294,7 @@ module _ (callers : ℕ) where
 
   -- the frame that an event pushes
   entered_from : (syms : SymbolMap) (e : Event) (kind : Kind) (s : Stack)
-      → From (entered syms e kind s) s (entered syms e kind s).arc
+      → From (new_activation syms e kind s) s (new_activation syms e kind s).arc
   entered_from syms e kind [] = tt
   entered_from syms e kind (b ∷ s) = (refl, refl)
 
@@ -305,27 +305,27 @@ module _ (callers : ℕ) where
   pushed_alike syms e s arc = by (change_push syms e s)
     where
       by : ((change syms e s).pushed ≡ None)
-          ⊎ ((kind : Kind) × ((change syms e s).pushed ≡ Some (entered syms e kind (change syms e s).kept))
+          ⊎ ((kind : Kind) × ((change syms e s).pushed ≡ Some (new_activation syms e kind (change syms e s).rest))
           × (is_root kind ≡ false))
           → (if option_map_or (λ k. order.same_arc arc (plain_key k)) (pushed_arc callers (change syms e s)) false
           then 1 else 0) ≡ plain.pushes arc (change syms e s).pushed
       by (inl none) =
           subst (λ (o : Option Activation). (if option_map_or (λ k. order.same_arc arc (plain_key k))
-          (ctx_arc_of callers o (change syms e s).kept) false then 1 else 0) ≡ plain.pushes arc o) (sym none) refl
+          (ctx_arc_of callers o (change syms e s).rest) false then 1 else 0) ≡ plain.pushes arc o) (sym none) refl
       by (inr p) =
-          let a = entered syms e p.0 (change syms e s).kept in
+          let a = new_activation syms e p.0 (change syms e s).rest in
           subst (λ (o : Option Activation). (if option_map_or (λ k. order.same_arc arc (plain_key k))
-          (ctx_arc_of callers o (change syms e s).kept) false then 1 else 0) ≡ plain.pushes arc o) (sym p.1)
+          (ctx_arc_of callers o (change syms e s).rest) false then 1 else 0) ≡ plain.pushes arc o) (sym p.1)
           (ap (λ b. if b then 1 else 0)
-          (tests_alike arc a (change syms e s).kept a.arc (entered_from syms e p.0 (change syms e s).kept)))
+          (tests_alike arc a (change syms e s).rest a.arc (entered_from syms e p.0 (change syms e s).rest)))
 
 -- ---- the rows
 
-module _ (callers : ℕ) (syms : SymbolMap) (xs : List Seen) (stand : AllByRecursion (StandsOn syms) xs) where
-  on : (x : Seen) → IsIn xs x → StandsOn syms x
+module _ (callers : ℕ) (syms : SymbolMap) (xs : List EventOnStack) (stand : AllByRecursion (StandsOn syms) xs) where
+  on : (x : EventOnStack) → IsIn xs x → StandsOn syms x
   on x there = of_all (StandsOn syms) xs stand x there
 
-  past_kinds : (kind : ℕ) → event_kinds ≤ kind → (x : Seen) → IsIn xs x → get_or x.cost kind 0 ≡ 0
+  past_kinds : (kind : ℕ) → event_kinds ≤ kind → (x : EventOnStack) → IsIn xs x → get_or x.cost kind 0 ≡ 0
   past_kinds kind past x there =
       let long = (on x there).whole in get_or_past x.cost kind 0 (omega (arith, past, long))
 
@@ -340,14 +340,14 @@ module _ (callers : ℕ) (syms : SymbolMap) (xs : List Seen) (stand : AllByRecur
   line_number : (kind : ℕ) (p : CtxPlace) → get_or (line_as p).cost kind 0 ≡ self_cost callers syms kind p xs
   line_number kind p =
       by_kind_all (λ j. self_cost callers syms j p xs)
-      (λ j past. sums_zero (λ (x : Seen). if same_place p (counts_at callers syms x) then get_or x.cost j 0 else 0) xs
+      (λ j past. sums_zero (λ (x : EventOnStack). if same_place p (counts_at callers syms x) then get_or x.cost j 0 else 0) xs
       (λ x there. ap (λ n. if same_place p (counts_at callers syms x) then n else 0) (past_kinds j past x there)
       ∙ if_zero (same_place p (counts_at callers syms x)))) kind
 
   abbrev line_shares : ℕ → List (CtxPlace × ℕ)
-  line_shares kind = map (λ (x : Seen). (counts_at callers syms x, get_or x.cost kind 0)) xs
+  line_shares kind = map (λ (x : EventOnStack). (counts_at callers syms x, get_or x.cost kind 0)) xs
 
-  place_is : (x : Seen) → IsIn xs x → plain_place (counts_at callers syms x) ≡ place_of syms x.event.done.pc
+  place_is : (x : EventOnStack) → IsIn xs x → plain_place (counts_at callers syms x) ≡ place_of syms x.event.done.pc
   place_is x there = λ i. record {
     func = first_is callers x.stack (place_of syms x.event.done.pc).func (on x there).top i;
     file = (place_of syms x.event.done.pc).file;
@@ -356,7 +356,7 @@ module _ (callers : ℕ) (syms : SymbolMap) (xs : List Seen) (stand : AllByRecur
 
   shares_in : (kind : ℕ) (c : CtxPlace × ℕ) → IsIn (line_shares kind) c → IsIn place_keys c.0
   shares_in kind c there =
-      let x = from_map (λ (y : Seen). (counts_at callers syms y, get_or y.cost kind 0)) xs c there in
+      let x = from_map (λ (y : EventOnStack). (counts_at callers syms y, get_or y.cost kind 0)) xs c there in
       rise.in_risen place_order ties.place_total ties.place_only (map (counts_at callers syms) xs) c.0
       (subst (IsIn (map (counts_at callers syms) xs)) (ap (λ (d : CtxPlace × ℕ). d.0) x.2)
       (rise.in-map (counts_at callers syms) xs x.0 x.1))
@@ -383,14 +383,14 @@ module _ (callers : ℕ) (syms : SymbolMap) (xs : List Seen) (stand : AllByRecur
       (λ p there. ap (λ n. if passes p then n else 0)
       (line_number kind p
       ∙ sym (sums_map (λ (c : CtxPlace × ℕ). if same_place p c.0 then c.1 else 0)
-      (λ (x : Seen). (counts_at callers syms x, get_or x.cost kind 0)) xs)))
+      (λ (x : EventOnStack). (counts_at callers syms x, get_or x.cost kind 0)) xs)))
       ∙ all_shares same_place place_order ties.place_total ties.place_only ties.place_alike ties.place_itself passes
       place_keys (rise.risen_rises place_order ties.place_total ties.place_only (map (counts_at callers syms) xs))
       (line_shares kind) (shares_in kind)
       ∙ sums_map (λ (c : CtxPlace × ℕ). if passes c.0 then c.1 else 0)
-      (λ (x : Seen). (counts_at callers syms x, get_or x.cost kind 0)) xs
-      ∙ sums_same (λ (x : Seen). if passes (counts_at callers syms x) then get_or x.cost kind 0 else 0)
-      (λ (x : Seen). if order.same_place place (place_of syms x.event.done.pc) then get_or x.cost kind 0 else 0) xs
+      (λ (x : EventOnStack). (counts_at callers syms x, get_or x.cost kind 0)) xs
+      ∙ sums_same (λ (x : EventOnStack). if passes (counts_at callers syms x) then get_or x.cost kind 0 else 0)
+      (λ (x : EventOnStack). if order.same_place place (place_of syms x.event.done.pc) then get_or x.cost kind 0 else 0) xs
       (λ x there. ap (λ (p : Place). if order.same_place place p then get_or x.cost kind 0 else 0) (place_is x there))
 
   -- ---- arcs
@@ -407,13 +407,13 @@ module _ (callers : ℕ) (syms : SymbolMap) (xs : List Seen) (stand : AllByRecur
   arc_number : (kind : ℕ) (k : CtxArcKey) → get_or (arc_as k).cost kind 0 ≡ arc_cost callers kind k xs
   arc_number kind k =
       by_kind_all (λ j. arc_cost callers j k xs)
-      (λ j past. sums_zero (λ (x : Seen). get_or x.cost j 0 * entered_by callers k x.stack) xs
+      (λ j past. sums_zero (λ (x : EventOnStack). get_or x.cost j 0 * entered_by callers k x.stack) xs
       (λ x there. ap (λ n. n * entered_by callers k x.stack) (past_kinds j past x there) ∙ omega arith)) kind
 
-  abbrev cost_shares_at : ℕ → Seen → List (CtxArcKey × ℕ)
+  abbrev cost_shares_at : ℕ → EventOnStack → List (CtxArcKey × ℕ)
   cost_shares_at kind x = shares_of callers (get_or x.cost kind 0) (ctx_arcs callers x.stack)
 
-  abbrev call_shares_at : Seen → List (CtxArcKey × ℕ)
+  abbrev call_shares_at : EventOnStack → List (CtxArcKey × ℕ)
   call_shares_at x = shares_of callers 1 (pushed_arc callers (change syms x.event x.stack) ∷ [])
 
   pair_first : (n : ℕ) (ks : List CtxArcKey) (c : CtxArcKey × ℕ) → IsIn (map {B = CtxArcKey × ℕ} (λ k. (k, n)) ks) c
@@ -462,7 +462,7 @@ module _ (callers : ℕ) (syms : SymbolMap) (xs : List Seen) (stand : AllByRecur
           never e = cc
 
   -- a number of each arc's row, which the events share in so
-  module _ (arc : ArcKey) (number : CtxArc → ℕ) (total : CtxArcKey → ℕ) (shares : Seen → List (CtxArcKey × ℕ))
+  module _ (arc : ArcKey) (number : CtxArc → ℕ) (total : CtxArcKey → ℕ) (shares : EventOnStack → List (CtxArcKey × ℕ))
       (whole : ℕ) (number_is : (k : CtxArcKey) → number (arc_as k) ≡ total k)
       (none : (r : CtxArc) → is_some_arc r ≡ false → number r ≡ 0)
       (total_is : (k : CtxArcKey) → total k
@@ -498,16 +498,16 @@ module _ (callers : ℕ) (syms : SymbolMap) (xs : List Seen) (stand : AllByRecur
       sums_map (λ (r : ArcRow). if order.same_arc arc r.arc then get_or r.cost kind 0 else 0) plain_arc arc_list
       ∙ arc_numbers arc (λ (r : CtxArc). get_or r.cost kind 0) (λ k. arc_cost callers kind k xs) (cost_shares_at kind)
       (plain.arc_cost kind arc xs) (arc_number kind) (λ r none. zero_number r.cost (no_numbers r none).1 kind)
-      (λ k. sums_same (λ (x : Seen). get_or x.cost kind 0 * entered_by callers k x.stack)
-      (λ (x : Seen). sum_by (λ (c : CtxArcKey × ℕ). if same_arc k c.0 then c.1 else 0) (cost_shares_at kind x)) xs
+      (λ k. sums_same (λ (x : EventOnStack). get_or x.cost kind 0 * entered_by callers k x.stack)
+      (λ (x : EventOnStack). sum_by (λ (c : CtxArcKey × ℕ). if same_arc k c.0 then c.1 else 0) (cost_shares_at kind x)) xs
       (λ x there. sym (under_contexts callers (get_or x.cost kind 0) k x.stack)))
       (cost_in kind)
       (sums_same
-      (λ (x : Seen). sum_by (λ (c : CtxArcKey × ℕ). if order.same_arc arc (plain_key c.0) then c.1 else 0)
-      (cost_shares_at kind x)) (λ (x : Seen). get_or x.cost kind 0 * plain.entered_by arc x.stack) xs
+      (λ (x : EventOnStack). sum_by (λ (c : CtxArcKey × ℕ). if order.same_arc arc (plain_key c.0) then c.1 else 0)
+      (cost_shares_at kind x)) (λ (x : EventOnStack). get_or x.cost kind 0 * plain.entered_by arc x.stack) xs
       (λ x there. under_functions callers (get_or x.cost kind 0) arc x.stack (on x there).entered))
 
-  one_pushed : (passes : CtxArcKey → Bool) (x : Seen)
+  one_pushed : (passes : CtxArcKey → Bool) (x : EventOnStack)
       → sum_by (λ (c : CtxArcKey × ℕ). if passes c.0 then c.1 else 0) (call_shares_at x)
       ≡ (if option_map_or passes (pushed_arc callers (change syms x.event x.stack)) false then 1 else 0)
   one_pushed passes x =
@@ -520,13 +520,13 @@ module _ (callers : ℕ) (syms : SymbolMap) (xs : List Seen) (stand : AllByRecur
       ∙ arc_numbers arc (λ (r : CtxArc). r.calls) (λ k. arc_calls callers syms k xs) call_shares_at
       (plain.arc_calls syms arc xs) (λ k. refl) (λ r none. (no_numbers r none).0)
       (λ k. sums_same
-      (λ (x : Seen). if is_arc k (pushed_arc callers (change syms x.event x.stack)) then 1 else 0)
-      (λ (x : Seen). sum_by (λ (c : CtxArcKey × ℕ). if same_arc k c.0 then c.1 else 0) (call_shares_at x)) xs
+      (λ (x : EventOnStack). if is_arc k (pushed_arc callers (change syms x.event x.stack)) then 1 else 0)
+      (λ (x : EventOnStack). sum_by (λ (c : CtxArcKey × ℕ). if same_arc k c.0 then c.1 else 0) (call_shares_at x)) xs
       (λ x there. sym (one_pushed (same_arc k) x)))
       call_in
       (sums_same
-      (λ (x : Seen). sum_by (λ (c : CtxArcKey × ℕ). if order.same_arc arc (plain_key c.0) then c.1 else 0)
-      (call_shares_at x)) (λ (x : Seen). plain.pushes arc (change syms x.event x.stack).pushed) xs
+      (λ (x : EventOnStack). sum_by (λ (c : CtxArcKey × ℕ). if order.same_arc arc (plain_key c.0) then c.1 else 0)
+      (call_shares_at x)) (λ (x : EventOnStack). plain.pushes arc (change syms x.event x.stack).pushed) xs
       (λ x there. one_pushed (λ k. order.same_arc arc (plain_key k)) x ∙ pushed_alike callers syms x.event x.stack arc))
 
   -- ---- what they fold back to

@@ -7,14 +7,14 @@ use Rattle.std.specs.Prelude.{slice_index_or}
 use Rattle.std.proofs.lemmas.List.{length-append}
 use Rattle.event_costs.specs.declared.event.Event.{Event}
 use Rattle.sym_map.specs.SymbolMap.{SymbolMap}
-use Rattle.shadow_stack.specs.Changes.{change, gone}
+use Rattle.shadow_stack.specs.Changes.{change, drop_count}
 use Rattle.shadow_stack.specs.Frames.{StartWithin, frame_of, with_frame}
 use Rattle.shadow_stack.specs.Stacks.{Activation, Stack}
 use Rattle.shadow_stack.specs.declared.frame.Frame.{Frame}
 use Rattle.shadow_stack.proofs.ChangeLemmas.{change-end, drop-end}
 use Rattle.shadow_stack.proofs.FrameLemmas.{covers_itself}
 use Rattle.ctx_rows.specs.Contexts.{Context, context, has_context, with_context}
-use Rattle.ctx_rows.specs.States.{Track, kept, top_number}
+use Rattle.ctx_rows.specs.States.{Track, kept_track_frames, top_number}
 use Rattle.ctx_rows.specs.Tracks.{AreNumbered}
 
 -- what stands in a list stands there once more is added
@@ -112,12 +112,12 @@ starts_with total (Some a) fs all =
     All-cons (λ (f : Frame). AllZip (λ t s. s ≤ t) total f.start) (frame_of total a) fs (covers_itself total) all
 
 -- what stays of the stack
-pub kept_stack : (syms : SymbolMap) (e : Event) (s : Stack) → drop (gone syms e s) s ≡ (change syms e s).kept
-kept_stack syms e s = drop-end (change syms e s).kept s (change-end syms e s)
+pub kept_stack : (syms : SymbolMap) (e : Event) (s : Stack) → drop (drop_count syms e s) s ≡ (change syms e s).rest
+kept_stack syms e s = drop-end (change syms e s).rest s (change-end syms e s)
 
 pub numbered_kept : (callers : ℕ) (cs : List Context) (syms : SymbolMap) (e : Event) (t : Track)
     → AreNumbered callers cs t.frames t.stack
-    → AreNumbered callers cs (kept syms e t) (change syms e t.stack).kept
+    → AreNumbered callers cs (kept_track_frames syms e t) (change syms e t.stack).rest
 numbered_kept callers cs syms e t all =
-    subst (AreNumbered callers cs (kept syms e t)) (kept_stack syms e t.stack)
-    (numbered_drop callers cs (gone syms e t.stack) t.frames t.stack all)
+    subst (AreNumbered callers cs (kept_track_frames syms e t)) (kept_stack syms e t.stack)
+    (numbered_drop callers cs (drop_count syms e t.stack) t.frames t.stack all)

@@ -11,7 +11,7 @@ use Rattle.event_costs.specs.declared.numbers.ThreadNo.{ThreadNo}
 use Rattle.sym_map.specs.SymbolMap.{SymbolMap, place_of}
 use Rattle.shadow_stack.specs.Changes.{after, change}
 use Rattle.shadow_stack.specs.Stacks.{Activation, Stack, is_rooted, root, top_of}
-use Rattle.shadow_stack.specs.Traces.{Seen, stack_of}
+use Rattle.shadow_stack.specs.Traces.{EventOnStack, stack_of}
 use Rattle.shadow_stack.specs.declared.frame.Kind.TheVariants.{Root}
 use Rattle.shadow_stack.proofs.ChangeLemmas.{rooted-some}
 use Rattle.shadow_stack.proofs.FrameLemmas.{after-rooted}
@@ -19,8 +19,8 @@ use Rattle.recorder.specs.Bounds.{IsUnit, SumsWithin}
 use Rattle.recorder.proofs.BoundLemmas.{within_cut, units}
 use Rattle.recorder.proofs.TopLaws.{top_follows}
 use Rattle.part_dump.specs.Calls.{Call, Readies, Sees}
-use Rattle.part_dump.specs.Steps.{Step, event_of, frames_in, own, own_events, stack_at, thread_of}
-use Rattle.part_dump.specs.Watched.{Fits, Follows, IsOrderly, last_of, readied, readied_after, readied_by}
+use Rattle.part_dump.specs.Steps.{Step, event_of, frames_in, steps_of_thread, events_of_thread, stack_at, thread_of}
+use Rattle.part_dump.specs.Watched.{Fits, Follows, IsOrderly, last_of, ready_pc, ready_pc_after, ready_pc_by}
 use Rattle.part_dump.specs.Watched.{steps_in, steps_of}
 use Rattle.part_dump.specs.Watching.{after_call}
 use Rattle.part_dump.proofs.StepLemmas.{events-push, length-push, own-other, is_not, own-push, same_stack, stack-push}
@@ -29,8 +29,8 @@ use Rattle.part_dump.proofs.WatchLemmas.{last-push, readied-append}
 use Rattle.ctx_rows.specs.Contexts.{Context, context, number, with_context}
 use Rattle.ctx_rows.specs.Telling.{CanCount, CanSee}
 use Rattle.ctx_rows.specs.Since.{AreEntered, StandsOn, since, since_after, since_by}
-use Rattle.ctx_rows.specs.States.{State, Track, after_ready, begun, contexts_after, contexts_with, cut_off, is_of}
-use Rattle.ctx_rows.specs.States.{knows, seen_on, track, with_started}
+use Rattle.ctx_rows.specs.States.{CtxState, Track, after_ready, first_track, contexts_after, contexts_with, track_after_cut, is_track_of}
+use Rattle.ctx_rows.specs.States.{knows, track_after_event, track, with_started}
 use Rattle.ctx_rows.specs.Tracks.{account_of}
 use Rattle.ctx_rows.specs.Watching.{by_context}
 use Rattle.ctx_rows.proofs.BoundLemmas.{can_count, within_begun, within_seen}
@@ -47,7 +47,7 @@ use Rattle.recorder.proofs.ThreadBounds.{within_later}
 pub steps_more : (calls : List Call) (c : Call) → steps_in (calls ++ c ∷ []) ≡ steps_in calls ++ steps_of c
 steps_more calls c = flat_map-append steps_of calls (c ∷ []) ∙ ap (λ xs. steps_in calls ++ xs) (append-nil (steps_of c))
 
-since_from : (thread : ℕ) (before : List Seen) (calls : List Call) (c : Call)
+since_from : (thread : ℕ) (before : List EventOnStack) (calls : List Call) (c : Call)
     → since_after thread before (calls ++ c ∷ []) ≡ since_by thread c (since_after thread before calls)
 since_from thread before [] c = refl
 since_from thread before (d ∷ calls) c = since_from thread (since_by thread d before) calls c
@@ -57,7 +57,7 @@ pub since_more : (thread : ℕ) (calls : List Call) (c : Call)
 since_more thread calls c = since_from thread [] calls c
 
 pub readied_more : (thread : ℕ) (calls : List Call) (c : Call)
-    → readied thread (calls ++ c ∷ []) ≡ readied_by thread c (readied thread calls)
+    → ready_pc thread (calls ++ c ∷ []) ≡ ready_pc_by thread c (ready_pc thread calls)
 readied_more thread calls c = readied-append thread calls (c ∷ [])
 
 -- ---- how a thread stands
@@ -69,21 +69,21 @@ Goes syms first (Some x) s =
     (event_of x).ends ≡ false → (is_rooted s ≡ true) × (top_of s ≡ Some (place_of syms (event_of x).done.next).func)
 
 -- the stack of an event is that after some events
-pub record IsReached (syms : SymbolMap) (x : Seen) : Type 0 where
+pub record IsReached (syms : SymbolMap) (x : EventOnStack) : Type 0 where
   pub events : List Event
   pub first : ℕ
   pub is : x.stack ≡ stack_of syms events first
 
 -- A thread that is known stands for its steps among these: it began at a pc, at which it was last ready if it has made
 -- none; its rows have the sums of its events since its last part.
-pub record HasTrack (syms : SymbolMap) (callers : ℕ) (cs : List Context) (past : List Step) (events : List Seen)
+pub record HasTrack (syms : SymbolMap) (callers : ℕ) (cs : List Context) (past : List Step) (events : List EventOnStack)
     (ready_at : Option ℕ) (thread : ℕ) (t : Track) : Type 0 where
   pub first : ℕ
   pub own_thread : t.thread.0 ≡ thread
   pub stack : t.stack ≡ stack_at syms past thread first
-  pub goes : Goes syms first (last_of (own thread past)) t.stack
+  pub goes : Goes syms first (last_of (steps_of_thread thread past)) t.stack
   pub entered : AreEntered t.stack
-  pub readied : own thread past ≡ [] → ready_at ≡ Some first
+  pub readied : steps_of_thread thread past ≡ [] → ready_at ≡ Some first
   pub within : SumsWithin (length past) (account_of t)
   pub tracked : IsTracked callers cs syms events t
   pub stand : AllByRecursion (StandsOn syms) events
@@ -94,7 +94,7 @@ all_more : {X : Type 0} (P : X → Type 0) (xs : List X) (x : X) → AllByRecurs
 all_more P [] x all here = (here, tt)
 all_more P (y ∷ ys) x all here = (all.0, all_more P ys x all.1 here)
 
-module _ (syms : SymbolMap) (callers : ℕ) (cs : List Context) (past : List Step) (events : List Seen)
+module _ (syms : SymbolMap) (callers : ℕ) (cs : List Context) (past : List Step) (events : List EventOnStack)
     (ready_at : Option ℕ) (thread : ℕ) (t : Track) (has : HasTrack syms callers cs past events ready_at thread t) where
   -- once another thread has begun or made a step
   pub has_more : (p : Option Activation) (s : Stack)
@@ -115,7 +115,7 @@ module _ (syms : SymbolMap) (callers : ℕ) (cs : List Context) (past : List Ste
   pub has_other : (x : Step) → thread_of x ≢ thread
       → HasTrack syms callers cs (past ++ x ∷ []) events ready_at thread t
   has_other x apart =
-      let same : own thread (past ++ x ∷ []) ≡ own thread past = own-other thread past x apart in
+      let same : steps_of_thread thread (past ++ x ∷ []) ≡ steps_of_thread thread past = own-other thread past x apart in
       record {
         first = has.first;
         own_thread = has.own_thread;
@@ -132,7 +132,7 @@ module _ (syms : SymbolMap) (callers : ℕ) (cs : List Context) (past : List Ste
       }
 
   -- it is ready again
-  pub has_ready : (pc : ℕ) → (own thread past ≡ [] → IfSome ready_at (λ before. before ≡ pc))
+  pub has_ready : (pc : ℕ) → (steps_of_thread thread past ≡ [] → IfSome ready_at (λ before. before ≡ pc))
       → HasTrack syms callers cs past events (Some pc) thread t
   has_ready pc fits = record {
     first = has.first;
@@ -151,7 +151,7 @@ module _ (syms : SymbolMap) (callers : ℕ) (cs : List Context) (past : List Ste
   }
 
   -- a part of it is written
-  pub has_cut : HasTrack syms callers cs past [] ready_at thread (cut_off t)
+  pub has_cut : HasTrack syms callers cs past [] ready_at thread (track_after_cut t)
   has_cut = record {
     first = has.first;
     own_thread = has.own_thread;
@@ -159,7 +159,7 @@ module _ (syms : SymbolMap) (callers : ℕ) (cs : List Context) (past : List Ste
     goes = has.goes;
     entered = has.entered;
     readied = has.readied;
-    within = within_cut (account_of t) (account_of (cut_off t)) (length past) refl has.within;
+    within = within_cut (account_of t) (account_of (track_after_cut t)) (length past) refl has.within;
     tracked = tracked_cut callers cs syms events t has.tracked;
     stand = tt;
     reached = tt;
@@ -175,19 +175,19 @@ module _ (syms : SymbolMap) (callers : ℕ) (cs : List Context) (past : List Ste
     last_some y [] = (y, refl)
     last_some y (z ∷ zs) = last_some z zs
 
-    own_is : own (thread_of x) past ≡ own thread past
-    own_is = ap (λ n. own n past) is
+    own_is : steps_of_thread (thread_of x) past ≡ steps_of_thread thread past
+    own_is = ap (λ n. steps_of_thread n past) is
 
-    first_is : own thread past ≡ [] → has.first ≡ e.done.pc
+    first_is : steps_of_thread thread past ≡ [] → has.first ≡ e.done.pc
     first_is none = inside (sym (has.readied none) ∙ ready)
       where
         inside : ◌≡◌ {A = Option ℕ} (Some has.first) (Some e.done.pc) → has.first ≡ e.done.pc
         inside same = cc
 
-    seen_is : stack_at syms past thread e.done.pc ≡ x.seen.stack
+    seen_is : stack_at syms past thread e.done.pc ≡ x.on_stack.stack
     seen_is = ap (λ n. stack_at syms past n e.done.pc) (sym is) ∙ sym orderly.stack
 
-    begun_at : (ys : List Step) → own thread past ≡ ys
+    begun_at : (ys : List Step) → steps_of_thread thread past ≡ ys
         → stack_at syms past thread has.first ≡ stack_at syms past thread e.done.pc
     begun_at [] none = ap (λ pc. stack_at syms past thread pc) (first_is none)
     begun_at (y ∷ ys) some = same_stack syms past thread has.first e.done.pc (λ none. never (sym some ∙ none))
@@ -196,12 +196,12 @@ module _ (syms : SymbolMap) (callers : ℕ) (cs : List Context) (past : List Ste
         never same = cc
 
     pub at_pc : t.stack ≡ stack_at syms past thread e.done.pc
-    at_pc = has.stack ∙ begun_at (own thread past) refl
+    at_pc = has.stack ∙ begun_at (steps_of_thread thread past) refl
 
-    pub on_stack : t.stack ≡ x.seen.stack
+    pub on_stack : t.stack ≡ x.on_stack.stack
     on_stack = at_pc ∙ seen_is
 
-    now : (ys : List Step) → own thread past ≡ ys → Goes syms has.first (last_of ys) t.stack → Follows (last_of ys) e
+    now : (ys : List Step) → steps_of_thread thread past ≡ ys → Goes syms has.first (last_of ys) t.stack → Follows (last_of ys) e
         → (is_rooted t.stack ≡ true) × (top_of t.stack ≡ Some (place_of syms e.done.pc).func)
     now [] none goes follows =
         (goes.0, goes.1 ∙ ap (λ pc. Some (place_of syms pc).func) (first_is none))
@@ -214,13 +214,13 @@ module _ (syms : SymbolMap) (callers : ℕ) (cs : List Context) (past : List Ste
 
     stands_now : (is_rooted t.stack ≡ true) × (top_of t.stack ≡ Some (place_of syms e.done.pc).func)
     stands_now =
-        now (own thread past) refl has.goes (subst (λ ys. Follows (last_of ys) e) own_is orderly.follows)
+        now (steps_of_thread thread past) refl has.goes (subst (λ ys. Follows (last_of ys) e) own_is orderly.follows)
 
     pub live : 0 < length t.stack
     live = rooted-some t.stack stands_now.0
 
-    unit : IsUnit x.seen.cost
-    unit = units x.seen.cost orderly.ones
+    unit : IsUnit x.on_stack.cost
+    unit = units x.on_stack.cost orderly.ones
 
     shallow : length t.frames ≤ 4194304
     shallow =
@@ -231,10 +231,10 @@ module _ (syms : SymbolMap) (callers : ℕ) (cs : List Context) (past : List Ste
         let room = orderly.frames in
         omega (arith, all, few, same, within, room)
 
-    pub counts : CanCount t x.seen.cost
-    counts = can_count t x.seen.cost (length past) has.within orderly.room unit shallow
+    pub counts : CanCount t x.on_stack.cost
+    counts = can_count t x.on_stack.cost (length past) has.within orderly.room unit shallow
 
-    stands_on : StandsOn syms x.seen
+    stands_on : StandsOn syms x.on_stack
     stands_on = record {
       whole = orderly.whole;
       rooted = subst (λ s. is_rooted s ≡ true) on_stack stands_now.0;
@@ -245,39 +245,39 @@ module _ (syms : SymbolMap) (callers : ℕ) (cs : List Context) (past : List Ste
     goes_now : Goes syms e.done.pc (Some x) (after syms t.stack e)
     goes_now goes_on = (after-rooted syms t.stack e stands_now.0 goes_on, top_follows syms t.stack e goes_on)
 
-    own_now : own thread (past ++ x ∷ []) ≡ own thread past ++ x ∷ []
+    own_now : steps_of_thread thread (past ++ x ∷ []) ≡ steps_of_thread thread past ++ x ∷ []
     own_now = own-push thread past x is
 
     pub has_seen : HasTrack syms callers (contexts_after callers cs (change syms e t.stack)) (past ++ x ∷ [])
-        (events ++ x.seen ∷ []) ready_at thread (seen_on callers cs syms e x.seen.cost t)
+        (events ++ x.on_stack ∷ []) ready_at thread (track_after_event callers cs syms e x.on_stack.cost t)
     has_seen = record {
       first = e.done.pc;
       own_thread = has.own_thread;
       stack =
           ap (λ s. after syms s e) at_pc
           ∙ sym (ap (λ es. stack_of syms es e.done.pc) (events-push thread past x is)
-          ∙ stack-push syms (own_events thread past) e e.done.pc);
+          ∙ stack-push syms (events_of_thread thread past) e e.done.pc);
       goes =
           subst (λ o. Goes syms e.done.pc o (after syms t.stack e))
-          (sym (ap (last_of {A = Step}) own_now ∙ last-push (own thread past) x)) goes_now;
+          (sym (ap (last_of {A = Step}) own_now ∙ last-push (steps_of_thread thread past) x)) goes_now;
       entered = entered_after syms e t.stack has.entered;
       readied = λ none. absurd (never (sym own_now ∙ none));
       within =
-          subst (λ n. SumsWithin n (account_of (seen_on callers cs syms e x.seen.cost t))) (sym (length-push past x))
-          (within_seen callers cs syms e x.seen.cost t (length past) has.within unit shallow);
+          subst (λ n. SumsWithin n (account_of (track_after_event callers cs syms e x.on_stack.cost t))) (sym (length-push past x))
+          (within_seen callers cs syms e x.on_stack.cost t (length past) has.within unit shallow);
       tracked =
           subst (λ s. IsTracked callers (contexts_after callers cs (change syms e t.stack)) syms
-          (events ++ record { event = e; cost = x.seen.cost; stack = s } ∷ [])
-          (seen_on callers cs syms e x.seen.cost t))
+          (events ++ record { event = e; cost = x.on_stack.cost; stack = s } ∷ [])
+          (track_after_event callers cs syms e x.on_stack.cost t))
           on_stack
-          (tracked_seen callers cs syms events e x.seen.cost t has.tracked live stands_now.0 orderly.whole);
-      stand = all_more (StandsOn syms) events x.seen has.stand stands_on;
-      reached = all_more (IsReached syms) events x.seen has.reached
-          (record { events = own_events thread past; first = e.done.pc; is = sym seen_is });
+          (tracked_seen callers cs syms events e x.on_stack.cost t has.tracked live stands_now.0 orderly.whole);
+      stand = all_more (StandsOn syms) events x.on_stack has.stand stands_on;
+      reached = all_more (IsReached syms) events x.on_stack has.reached
+          (record { events = events_of_thread thread past; first = e.done.pc; is = sym seen_is });
     }
       where
-        never : own thread past ++ x ∷ [] ≡ [] → ⊥
-        never = by (own thread past)
+        never : steps_of_thread thread past ++ x ∷ [] ≡ [] → ⊥
+        never = by (steps_of_thread thread past)
           where
             by : (ys : List Step) → ys ++ x ∷ [] ≡ [] → ⊥
             by [] same = cc
@@ -285,9 +285,9 @@ module _ (syms : SymbolMap) (callers : ℕ) (cs : List Context) (past : List Ste
 
 -- a thread that begins
 pub has_begun : (syms : SymbolMap) (callers : ℕ) (cs : List Context) (past : List Step) (thread : ThreadNo) (pc : ℕ)
-    → own thread.0 past ≡ []
+    → steps_of_thread thread.0 past ≡ []
     → HasTrack syms callers (with_context cs (context callers (root syms pc))) past [] (Some pc) thread.0
-    (begun thread (place_of syms pc).func (number cs (context callers (root syms pc))))
+    (first_track thread (place_of syms pc).func (number cs (context callers (root syms pc))))
 has_begun syms callers cs past thread pc none = record {
   first = pc;
   own_thread = refl;
@@ -304,15 +304,15 @@ has_begun syms callers cs past thread pc none = record {
 
 -- ---- how all threads stand
 
-pub record Holds (syms : SymbolMap) (callers : ℕ) (w : State) (calls : List Call) : Type 0 where
+pub record Holds (syms : SymbolMap) (callers : ℕ) (w : CtxState) (calls : List Call) : Type 0 where
   pub same_callers : w.callers ≡ callers
   pub ready : (thread : ThreadNo) (pc : ℕ) → last_of calls ≡ Some (Readies thread pc)
       → (w.ready ≡ Some thread) × (knows w thread ≡ true)
   pub tracks : (thread : ThreadNo) → knows w thread ≡ true
-      → HasTrack syms callers w.contexts (steps_in calls) (since thread.0 calls) (readied thread.0 calls) thread.0
+      → HasTrack syms callers w.contexts (steps_in calls) (since thread.0 calls) (ready_pc thread.0 calls) thread.0
       (track w thread)
   pub unknown : (thread : ThreadNo) → knows w thread ≡ false
-      → (own thread.0 (steps_in calls) ≡ []) × (since thread.0 calls ≡ [])
+      → (steps_of_thread thread.0 (steps_in calls) ≡ []) × (since thread.0 calls ≡ [])
 
 pub by_thread : (t thread : ThreadNo) → (t.0 ≡ thread.0) ⊎ (t.0 ≢ thread.0)
 by_thread t thread = elim (eqb_tells t.0 thread.0) as (λ _. (t.0 ≡ thread.0) ⊎ (t.0 ≢ thread.0)) [
@@ -346,18 +346,18 @@ eqb_same m n is = elim (eqb_tells m n) as (λ _. m == n ≡ true) [
 ]
 
 -- a thread's track with everything that it depends on put in its place
-pub moved : (syms : SymbolMap) (callers : ℕ) (cs : List Context) (past past_ : List Step) (events events_ : List Seen)
+pub moved : (syms : SymbolMap) (callers : ℕ) (cs : List Context) (past past_ : List Step) (events events_ : List EventOnStack)
     (ready ready_ : Option ℕ) (thread : ℕ) (t t_ : Track) → past_ ≡ past → events_ ≡ events → ready_ ≡ ready → t_ ≡ t
     → HasTrack syms callers cs past events ready thread t → HasTrack syms callers cs past_ events_ ready_ thread t_
 moved syms callers cs past past_ events events_ ready ready_ thread t t_ past_is events_are ready_is t_is has =
     subst (λ (p : List Step). HasTrack syms callers cs p events_ ready_ thread t_) (sym past_is)
-    (subst (λ (es : List Seen). HasTrack syms callers cs past es ready_ thread t_) (sym events_are)
+    (subst (λ (es : List EventOnStack). HasTrack syms callers cs past es ready_ thread t_) (sym events_are)
     (subst (λ (o : Option ℕ). HasTrack syms callers cs past events o thread t_) (sym ready_is)
     (subst (λ (u : Track). HasTrack syms callers cs past events ready thread u) (sym t_is) has)))
 
 -- ---- a thread is made ready
 
-module _ (syms : SymbolMap) (callers : ℕ) (w : State) (calls : List Call) (holds : Holds syms callers w calls)
+module _ (syms : SymbolMap) (callers : ℕ) (w : CtxState) (calls : List Call) (holds : Holds syms callers w calls)
     (thread : ThreadNo) (pc : ℕ) (fits : Fits syms calls (Readies thread pc)) where
   abbrev call : Call
   call = Readies thread pc
@@ -368,8 +368,8 @@ module _ (syms : SymbolMap) (callers : ℕ) (w : State) (calls : List Call) (hol
   since_is : (t : ThreadNo) → since t.0 (calls ++ call ∷ []) ≡ since t.0 calls
   since_is t = since_more t.0 calls call
 
-  ready_is : (t : ThreadNo) → readied t.0 (calls ++ call ∷ [])
-      ≡ (if thread.0 == t.0 then Some pc else readied t.0 calls)
+  ready_is : (t : ThreadNo) → ready_pc t.0 (calls ++ call ∷ [])
+      ≡ (if thread.0 == t.0 then Some pc else ready_pc t.0 calls)
   ready_is t = readied_more t.0 calls call
 
   last_is : (t : ThreadNo) (q : ℕ) → last_of (calls ++ call ∷ []) ≡ Some (Readies t q) → t ≡ thread
@@ -380,25 +380,25 @@ module _ (syms : SymbolMap) (callers : ℕ) (w : State) (calls : List Call) (hol
 
   -- where the thread is known
   module _ (known : knows w thread ≡ true) where
-    abbrev u : State
+    abbrev u : CtxState
     u = record w { ready = Some thread }
 
     again : (t : ThreadNo) → (t.0 ≡ thread.0) ⊎ (t.0 ≢ thread.0) → knows w t ≡ true
         → HasTrack syms callers w.contexts (steps_in (calls ++ call ∷ [])) (since t.0 (calls ++ call ∷ []))
-        (readied t.0 (calls ++ call ∷ [])) t.0 (track w t)
+        (ready_pc t.0 (calls ++ call ∷ [])) t.0 (track w t)
     again t (inl same) there =
         moved syms callers w.contexts (steps_in calls) (steps_in (calls ++ call ∷ [])) (since t.0 calls)
-        (since t.0 (calls ++ call ∷ [])) (Some pc) (readied t.0 (calls ++ call ∷ [])) t.0 (track w t)
+        (since t.0 (calls ++ call ∷ [])) (Some pc) (ready_pc t.0 (calls ++ call ∷ [])) t.0 (track w t)
         (track w t) past_is
-        (since_is t) (ready_is t ∙ if_same thread.0 t.0 (Some pc) (readied t.0 calls) (sym same)) refl
-        (has_ready syms callers w.contexts (steps_in calls) (since t.0 calls) (readied t.0 calls) t.0 (track w t)
+        (since_is t) (ready_is t ∙ if_same thread.0 t.0 (Some pc) (ready_pc t.0 calls) (sym same)) refl
+        (has_ready syms callers w.contexts (steps_in calls) (since t.0 calls) (ready_pc t.0 calls) t.0 (track w t)
         (holds.tracks t there) pc
-        (subst (λ n. own n (steps_in calls) ≡ [] → IfSome (readied n calls) (λ before. before ≡ pc)) (sym same) fits))
+        (subst (λ n. steps_of_thread n (steps_in calls) ≡ [] → IfSome (ready_pc n calls) (λ before. before ≡ pc)) (sym same) fits))
     again t (inr apart) there =
         moved syms callers w.contexts (steps_in calls) (steps_in (calls ++ call ∷ [])) (since t.0 calls)
-        (since t.0 (calls ++ call ∷ [])) (readied t.0 calls) (readied t.0 (calls ++ call ∷ [])) t.0 (track w t)
+        (since t.0 (calls ++ call ∷ [])) (ready_pc t.0 calls) (ready_pc t.0 (calls ++ call ∷ [])) t.0 (track w t)
         (track w t) past_is (since_is t)
-        (ready_is t ∙ if_other thread.0 t.0 (Some pc) (readied t.0 calls) (λ e. apart (sym e))) refl
+        (ready_is t ∙ if_other thread.0 t.0 (Some pc) (ready_pc t.0 calls) (λ e. apart (sym e))) refl
         (holds.tracks t there)
 
     holds_known : Holds syms callers u (calls ++ call ∷ [])
@@ -407,7 +407,7 @@ module _ (syms : SymbolMap) (callers : ℕ) (w : State) (calls : List Call) (hol
       ready = λ t q e. (ap (λ (n : ThreadNo). Some n) (sym (last_is t q e)), ap (knows w) (last_is t q e) ∙ known);
       tracks = λ t there. again t (by_thread t thread) there;
       unknown = λ t none. (
-        ap (own t.0) past_is ∙ (holds.unknown t none).0,
+        ap (steps_of_thread t.0) past_is ∙ (holds.unknown t none).0,
         since_is t ∙ (holds.unknown t none).1,
       );
     }
@@ -418,9 +418,9 @@ module _ (syms : SymbolMap) (callers : ℕ) (w : State) (calls : List Call) (hol
     c = context w.callers (root syms pc)
 
     abbrev new : Track
-    new = begun thread (place_of syms pc).func (number w.contexts c)
+    new = first_track thread (place_of syms pc).func (number w.contexts c)
 
-    abbrev v : State
+    abbrev v : CtxState
     v = record (with_started syms w thread pc) { ready = Some thread }
 
     knows_more : (t : ThreadNo) → knows v t ≡ knows w t || (t.0 == thread.0)
@@ -428,47 +428,47 @@ module _ (syms : SymbolMap) (callers : ℕ) (w : State) (calls : List Call) (hol
 
     fresh_track : (t : ThreadNo) → t.0 ≡ thread.0
         → HasTrack syms callers v.contexts (steps_in (calls ++ call ∷ [])) (since t.0 (calls ++ call ∷ []))
-        (readied t.0 (calls ++ call ∷ [])) t.0 (track v t)
+        (ready_pc t.0 (calls ++ call ∷ [])) t.0 (track v t)
     fresh_track t same =
         let was = holds.unknown thread none in
         let here : HasTrack syms callers v.contexts (steps_in calls) [] (Some pc) thread.0 new
         = subst (λ n. HasTrack syms callers (with_context w.contexts (context n (root syms pc))) (steps_in calls) []
-        (Some pc) thread.0 (begun thread (place_of syms pc).func (number w.contexts (context n (root syms pc)))))
+        (Some pc) thread.0 (first_track thread (place_of syms pc).func (number w.contexts (context n (root syms pc)))))
         (sym holds.same_callers) (has_begun syms callers w.contexts (steps_in calls) thread pc was.0) in
         let track_is : track v t ≡ new = track_new w.tracks new t (ap (knows w) (same_thread t thread same)
         ∙ none) same in
         moved syms callers v.contexts (steps_in calls) (steps_in (calls ++ call ∷ [])) []
         (since t.0 (calls ++ call ∷ []))
-        (Some pc) (readied t.0 (calls ++ call ∷ [])) t.0 new (track v t) past_is
+        (Some pc) (ready_pc t.0 (calls ++ call ∷ [])) t.0 new (track v t) past_is
         (since_is t ∙ ap (λ n. since n calls) same ∙ was.1)
-        (ready_is t ∙ if_same thread.0 t.0 (Some pc) (readied t.0 calls) (sym same)) track_is
+        (ready_is t ∙ if_same thread.0 t.0 (Some pc) (ready_pc t.0 calls) (sym same)) track_is
         (subst (λ n. HasTrack syms callers v.contexts (steps_in calls) [] (Some pc) n new) (sym same) here)
 
     other_track : (t : ThreadNo) → t.0 ≢ thread.0 → knows w t ≡ true
         → HasTrack syms callers v.contexts (steps_in (calls ++ call ∷ [])) (since t.0 (calls ++ call ∷ []))
-        (readied t.0 (calls ++ call ∷ [])) t.0 (track v t)
+        (ready_pc t.0 (calls ++ call ∷ [])) t.0 (track v t)
     other_track t apart there =
         moved syms callers v.contexts (steps_in calls) (steps_in (calls ++ call ∷ [])) (since t.0 calls)
-        (since t.0 (calls ++ call ∷ [])) (readied t.0 calls) (readied t.0 (calls ++ call ∷ [])) t.0 (track w t)
+        (since t.0 (calls ++ call ∷ [])) (ready_pc t.0 calls) (ready_pc t.0 (calls ++ call ∷ [])) t.0 (track w t)
         (track v t) past_is (since_is t)
-        (ready_is t ∙ if_other thread.0 t.0 (Some pc) (readied t.0 calls) (λ e. apart (sym e)))
+        (ready_is t ∙ if_other thread.0 t.0 (Some pc) (ready_pc t.0 calls) (λ e. apart (sym e)))
         (track_append w.tracks new t there)
         (has_begun_other t there)
       where
         has_begun_other : (t_ : ThreadNo) → knows w t_ ≡ true
             → HasTrack syms callers v.contexts (steps_in calls) (since t_.0 calls)
-            (readied t_.0 calls) t_.0 (track w t_)
+            (ready_pc t_.0 calls) t_.0 (track w t_)
         has_begun_other t_ there_ =
             let old = holds.tracks t_ there_ in
             subst (λ n. HasTrack syms callers (with_context w.contexts (context n (root syms pc))) (steps_in calls)
-            (since t_.0 calls) (readied t_.0 calls) t_.0 (track w t_)) (sym holds.same_callers)
+            (since t_.0 calls) (ready_pc t_.0 calls) t_.0 (track w t_)) (sym holds.same_callers)
             (has_more syms callers w.contexts (steps_in calls) (since t_.0 calls)
-            (readied t_.0 calls) t_.0 (track w t_) old
+            (ready_pc t_.0 calls) t_.0 (track w t_) old
             (Some (record { func = (place_of syms pc).func; kind = Root; arc = None })) [])
 
     begun_track : (t : ThreadNo) → (t.0 ≡ thread.0) ⊎ (t.0 ≢ thread.0) → knows v t ≡ true
         → HasTrack syms callers v.contexts (steps_in (calls ++ call ∷ [])) (since t.0 (calls ++ call ∷ []))
-        (readied t.0 (calls ++ call ∷ [])) t.0 (track v t)
+        (ready_pc t.0 (calls ++ call ∷ [])) t.0 (track v t)
     begun_track t (inl same) there = fresh_track t same
     begun_track t (inr apart) there =
         other_track t apart
@@ -491,7 +491,7 @@ module _ (syms : SymbolMap) (callers : ℕ) (w : State) (calls : List Call) (hol
       );
       tracks = λ t there. begun_track t (by_thread t thread) there;
       unknown = λ t none_. (
-        ap (own t.0) past_is ∙ (holds.unknown t (still_unknown t none_)).0,
+        ap (steps_of_thread t.0) past_is ∙ (holds.unknown t (still_unknown t none_)).0,
         since_is t ∙ (holds.unknown t (still_unknown t none_)).1,
       );
     }
@@ -507,7 +507,7 @@ module _ (syms : SymbolMap) (callers : ℕ) (w : State) (calls : List Call) (hol
 
 -- ---- a step
 
-module _ (syms : SymbolMap) (callers : ℕ) (w : State) (calls : List Call) (holds : Holds syms callers w calls)
+module _ (syms : SymbolMap) (callers : ℕ) (w : CtxState) (calls : List Call) (holds : Holds syms callers w calls)
     (x : Step)
     (fits : Fits syms calls (Sees x)) where
   abbrev step : Call
@@ -519,105 +519,105 @@ module _ (syms : SymbolMap) (callers : ℕ) (w : State) (calls : List Call) (hol
   known_now : (w.ready ≡ Some own_thread) × (knows w own_thread ≡ true)
   known_now = holds.ready own_thread (event_of x).done.pc fits.0
 
-  has : HasTrack syms callers w.contexts (steps_in calls) (since own_thread.0 calls) (readied own_thread.0 calls)
+  has : HasTrack syms callers w.contexts (steps_in calls) (since own_thread.0 calls) (ready_pc own_thread.0 calls)
       own_thread.0 (track w own_thread)
   has = holds.tracks own_thread known_now.1
 
   ready_last : (ds : List Call) (t : ThreadNo) (q : ℕ) (before : Option ℕ) → last_of ds ≡ Some (Readies t q)
-      → readied_after t.0 before ds ≡ Some q
+      → ready_pc_after t.0 before ds ≡ Some q
   ready_last [] t q before e = absurd (cc)
   ready_last (d ∷ []) t q before e =
-      ap (λ c. readied_by t.0 c before) (inside e) ∙ if_same t.0 t.0 (Some q) before refl
+      ap (λ c. ready_pc_by t.0 c before) (inside e) ∙ if_same t.0 t.0 (Some q) before refl
     where
       inside : Some d ≡ Some (Readies t q) → d ≡ Readies t q
       inside same = cc
-  ready_last (d ∷ (f ∷ ds)) t q before e = ready_last (f ∷ ds) t q (readied_by t.0 d before) e
+  ready_last (d ∷ (f ∷ ds)) t q before e = ready_last (f ∷ ds) t q (ready_pc_by t.0 d before) e
 
-  ready_at : readied own_thread.0 calls ≡ Some (event_of x).done.pc
+  ready_at : ready_pc own_thread.0 calls ≡ Some (event_of x).done.pc
   ready_at = ready_last calls own_thread (event_of x).done.pc None fits.0
 
-  pub can_see : CanSee w (event_of x) x.seen.cost
+  pub can_see : CanSee w (event_of x) x.on_stack.cost
   can_see = record {
     ready = known_now.0;
     knows = known_now.1;
     live =
         live syms callers w.contexts (steps_in calls) (since own_thread.0 calls)
-        (readied own_thread.0 calls) own_thread.0
+        (ready_pc own_thread.0 calls) own_thread.0
         (track w own_thread) has x fits.1 refl ready_at;
     sums =
-        counts syms callers w.contexts (steps_in calls) (since own_thread.0 calls) (readied own_thread.0 calls)
+        counts syms callers w.contexts (steps_in calls) (since own_thread.0 calls) (ready_pc own_thread.0 calls)
         own_thread.0 (track w own_thread) has x fits.1 refl ready_at;
   }
 
-  pub stands_at : StandsOn syms x.seen
+  pub stands_at : StandsOn syms x.on_stack
   stands_at =
-      stands_on syms callers w.contexts (steps_in calls) (since own_thread.0 calls) (readied own_thread.0 calls)
+      stands_on syms callers w.contexts (steps_in calls) (since own_thread.0 calls) (ready_pc own_thread.0 calls)
       own_thread.0 (track w own_thread) has x fits.1 refl ready_at
 
-  abbrev made : State
+  abbrev made : CtxState
   made = after_call by_context syms w step
 
-  seen_track : HasTrack syms callers made.contexts (steps_in calls ++ x ∷ []) (since own_thread.0 calls ++ x.seen ∷ [])
-      (readied own_thread.0 calls) own_thread.0
-      (seen_on w.callers w.contexts syms (event_of x) x.seen.cost (track w own_thread))
+  seen_track : HasTrack syms callers made.contexts (steps_in calls ++ x ∷ []) (since own_thread.0 calls ++ x.on_stack ∷ [])
+      (ready_pc own_thread.0 calls) own_thread.0
+      (track_after_event w.callers w.contexts syms (event_of x) x.on_stack.cost (track w own_thread))
   seen_track =
       subst (λ n. HasTrack syms callers
       (contexts_after n w.contexts (change syms (event_of x) (track w own_thread).stack))
-      (steps_in calls ++ x ∷ []) (since own_thread.0 calls ++ x.seen ∷ []) (readied own_thread.0 calls) own_thread.0
-      (seen_on n w.contexts syms (event_of x) x.seen.cost (track w own_thread))) (sym holds.same_callers)
-      (has_seen syms callers w.contexts (steps_in calls) (since own_thread.0 calls) (readied own_thread.0 calls)
+      (steps_in calls ++ x ∷ []) (since own_thread.0 calls ++ x.on_stack ∷ []) (ready_pc own_thread.0 calls) own_thread.0
+      (track_after_event n w.contexts syms (event_of x) x.on_stack.cost (track w own_thread))) (sym holds.same_callers)
+      (has_seen syms callers w.contexts (steps_in calls) (since own_thread.0 calls) (ready_pc own_thread.0 calls)
       own_thread.0 (track w own_thread) has x fits.1 refl ready_at)
 
   others_more : (t : ThreadNo) → knows w t ≡ true
-      → HasTrack syms callers made.contexts (steps_in calls) (since t.0 calls) (readied t.0 calls) t.0 (track w t)
+      → HasTrack syms callers made.contexts (steps_in calls) (since t.0 calls) (ready_pc t.0 calls) t.0 (track w t)
   others_more t there =
       let c = change syms (event_of x) (track w own_thread).stack in
-      subst (λ n. HasTrack syms callers (contexts_with n w.contexts c.pushed c.kept) (steps_in calls) (since t.0 calls)
-      (readied t.0 calls) t.0 (track w t)) (sym holds.same_callers)
-      (has_more syms callers w.contexts (steps_in calls) (since t.0 calls) (readied t.0 calls) t.0 (track w t)
-      (holds.tracks t there) c.pushed c.kept)
+      subst (λ n. HasTrack syms callers (contexts_with n w.contexts c.pushed c.rest) (steps_in calls) (since t.0 calls)
+      (ready_pc t.0 calls) t.0 (track w t)) (sym holds.same_callers)
+      (has_more syms callers w.contexts (steps_in calls) (since t.0 calls) (ready_pc t.0 calls) t.0 (track w t)
+      (holds.tracks t there) c.pushed c.rest)
 
   knows_still : (t : ThreadNo) → knows made t ≡ knows w t
   knows_still t =
-      knows_with w.tracks (seen_on w.callers w.contexts syms (event_of x) x.seen.cost (track w own_thread)) t
+      knows_with w.tracks (track_after_event w.callers w.contexts syms (event_of x) x.on_stack.cost (track w own_thread)) t
 
   past_now : steps_in (calls ++ step ∷ []) ≡ steps_in calls ++ x ∷ []
   past_now = steps_more calls step
 
   since_now : (t : ThreadNo) → since t.0 (calls ++ step ∷ [])
-      ≡ (if thread_of x == t.0 then since t.0 calls ++ x.seen ∷ [] else since t.0 calls)
+      ≡ (if thread_of x == t.0 then since t.0 calls ++ x.on_stack ∷ [] else since t.0 calls)
   since_now t = since_more t.0 calls step
 
-  readied_now : (t : ThreadNo) → readied t.0 (calls ++ step ∷ []) ≡ readied t.0 calls
+  readied_now : (t : ThreadNo) → ready_pc t.0 (calls ++ step ∷ []) ≡ ready_pc t.0 calls
   readied_now t = readied_more t.0 calls step
 
   track_now : (t : ThreadNo) → (t.0 ≡ own_thread.0) ⊎ (t.0 ≢ own_thread.0) → knows w t ≡ true
       → HasTrack syms callers made.contexts (steps_in (calls ++ step ∷ [])) (since t.0 (calls ++ step ∷ []))
-      (readied t.0 (calls ++ step ∷ [])) t.0 (track made t)
+      (ready_pc t.0 (calls ++ step ∷ [])) t.0 (track made t)
   track_now t (inl same) there =
-      let new = seen_on w.callers w.contexts syms (event_of x) x.seen.cost (track w own_thread) in
+      let new = track_after_event w.callers w.contexts syms (event_of x) x.on_stack.cost (track w own_thread) in
       let owner : new.thread.0 ≡ own_thread.0 = has.own_thread in
       let is : track made t ≡ new
       = track_with w.tracks new t
-      (subst (λ (n : ThreadNo). list_any (is_of n) w.tracks ≡ true)
+      (subst (λ (n : ThreadNo). list_any (is_track_of n) w.tracks ≡ true)
       (sym (same_thread new.thread own_thread owner)) known_now.1) (same ∙ sym owner) in
       moved syms callers made.contexts (steps_in calls ++ x ∷ []) (steps_in (calls ++ step ∷ []))
-      (since t.0 calls ++ x.seen ∷ []) (since t.0 (calls ++ step ∷ [])) (readied t.0 calls)
-      (readied t.0 (calls ++ step ∷ [])) t.0 new (track made t) past_now
-      (since_now t ∙ if_same (thread_of x) t.0 (since t.0 calls ++ x.seen ∷ []) (since t.0 calls) (sym same))
+      (since t.0 calls ++ x.on_stack ∷ []) (since t.0 (calls ++ step ∷ [])) (ready_pc t.0 calls)
+      (ready_pc t.0 (calls ++ step ∷ [])) t.0 new (track made t) past_now
+      (since_now t ∙ if_same (thread_of x) t.0 (since t.0 calls ++ x.on_stack ∷ []) (since t.0 calls) (sym same))
       (readied_now t) is
-      (subst (λ n. HasTrack syms callers made.contexts (steps_in calls ++ x ∷ []) (since n calls ++ x.seen ∷ [])
-      (readied n calls) n new) (sym same) seen_track)
+      (subst (λ n. HasTrack syms callers made.contexts (steps_in calls ++ x ∷ []) (since n calls ++ x.on_stack ∷ [])
+      (ready_pc n calls) n new) (sym same) seen_track)
   track_now t (inr apart) there =
-      let new = seen_on w.callers w.contexts syms (event_of x) x.seen.cost (track w own_thread) in
+      let new = track_after_event w.callers w.contexts syms (event_of x) x.on_stack.cost (track w own_thread) in
       let owner : new.thread.0 ≡ own_thread.0 = has.own_thread in
       let is : track made t ≡ track w t = track_other w.tracks new t (λ e. apart (e ∙ owner)) in
       moved syms callers made.contexts (steps_in calls ++ x ∷ []) (steps_in (calls ++ step ∷ [])) (since t.0 calls)
-      (since t.0 (calls ++ step ∷ [])) (readied t.0 calls) (readied t.0 (calls ++ step ∷ [])) t.0 (track w t)
+      (since t.0 (calls ++ step ∷ [])) (ready_pc t.0 calls) (ready_pc t.0 (calls ++ step ∷ [])) t.0 (track w t)
       (track made t) past_now
-      (since_now t ∙ if_other (thread_of x) t.0 (since t.0 calls ++ x.seen ∷ []) (since t.0 calls) (λ e. apart (sym e)))
+      (since_now t ∙ if_other (thread_of x) t.0 (since t.0 calls ++ x.on_stack ∷ []) (since t.0 calls) (λ e. apart (sym e)))
       (readied_now t) is
-      (has_other syms callers made.contexts (steps_in calls) (since t.0 calls) (readied t.0 calls) t.0 (track w t)
+      (has_other syms callers made.contexts (steps_in calls) (since t.0 calls) (ready_pc t.0 calls) t.0 (track w t)
       (others_more t there) x (λ e. apart (sym e)))
 
   pub holds_seen : Holds syms callers made (calls ++ step ∷ [])
@@ -632,11 +632,11 @@ module _ (syms : SymbolMap) (callers : ℕ) (w : State) (calls : List Call) (hol
       never t q e = cc
 
       others : (t : ThreadNo) → (t.0 ≡ own_thread.0) ⊎ (t.0 ≢ own_thread.0) → knows w t ≡ false
-          → (own t.0 (steps_in (calls ++ step ∷ [])) ≡ []) × (since t.0 (calls ++ step ∷ []) ≡ [])
+          → (steps_of_thread t.0 (steps_in (calls ++ step ∷ [])) ≡ []) × (since t.0 (calls ++ step ∷ []) ≡ [])
       others t (inl same) none =
           absurd (true_false (sym (ap (knows w) (same_thread t own_thread same) ∙ known_now.1) ∙ none))
       others t (inr apart) none = (
-        ap (own t.0) past_now ∙ own-other t.0 (steps_in calls) x (λ e. apart (sym e)) ∙ (holds.unknown t none).0,
-        since_now t ∙ if_other (thread_of x) t.0 (since t.0 calls ++ x.seen ∷ []) (since t.0 calls) (λ e. apart (sym e))
+        ap (steps_of_thread t.0) past_now ∙ own-other t.0 (steps_in calls) x (λ e. apart (sym e)) ∙ (holds.unknown t none).0,
+        since_now t ∙ if_other (thread_of x) t.0 (since t.0 calls ++ x.on_stack ∷ []) (since t.0 calls) (λ e. apart (sym e))
             ∙ (holds.unknown t none).1,
       )

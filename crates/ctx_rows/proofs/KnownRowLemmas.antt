@@ -7,10 +7,10 @@ use Rattle.std.proofs.lemmas.List.Elements.{All-from_recursion}
 use Rattle.event_costs.specs.declared.event.Event.{Event}
 use Rattle.event_costs.specs.Keys.{ArcKey}
 use Rattle.sym_map.specs.SymbolMap.{IsFile, IsSound, SymbolMap}
-use Rattle.shadow_stack.specs.Changes.{change, entered}
+use Rattle.shadow_stack.specs.Changes.{change, new_activation}
 use Rattle.shadow_stack.specs.Kinds.{is_root}
 use Rattle.shadow_stack.specs.Stacks.{Activation, Stack, top_of}
-use Rattle.shadow_stack.specs.Traces.{Seen}
+use Rattle.shadow_stack.specs.Traces.{EventOnStack}
 use Rattle.shadow_stack.specs.declared.frame.Kind.{Kind}
 use Rattle.shadow_stack.proofs.ChangeLemmas.{change-end, rooted-some}
 use Rattle.recorder.specs.Laws.{IsIn}
@@ -100,7 +100,7 @@ module _ (syms : SymbolMap) (sound : IsSound syms) (callers : ℕ) where
       ]
 
   entered_from : (e : Event) (kind : Kind) (s : Stack)
-      → IfSome (entered syms e kind s).arc (λ arc. (arc.callee ≡ (entered syms e kind s).func)
+      → IfSome (new_activation syms e kind s).arc (λ arc. (arc.callee ≡ (new_activation syms e kind s).func)
       × (top_of s ≡ Some arc.caller))
   entered_from e kind [] = tt
   entered_from e kind (b ∷ s) = (refl, refl)
@@ -109,35 +109,35 @@ module _ (syms : SymbolMap) (sound : IsSound syms) (callers : ℕ) where
       → IsIn (option_to_list (pushed_arc callers (change syms e s))) k → IsKnownKey k
   pushed_arc_known e s all k there = by (change_push syms e s)
     where
-      kept : AreKnownIn (change syms e s).kept
+      kept : AreKnownIn (change syms e s).rest
       kept = λ b inside. all b
           (subst (λ u. IsIn u b) (sym (change-end syms e s).whole)
-          (in_right (change-end syms e s).front (change syms e s).kept b inside))
+          (in_right (change-end syms e s).front (change syms e s).rest b inside))
 
       by : ((change syms e s).pushed ≡ None)
-          ⊎ ((kind : Kind) × ((change syms e s).pushed ≡ Some (entered syms e kind (change syms e s).kept))
+          ⊎ ((kind : Kind) × ((change syms e s).pushed ≡ Some (new_activation syms e kind (change syms e s).rest))
           × (is_root kind ≡ false))
           → IsKnownKey k
       by (inl none) =
-          elim (subst (λ (o : Option Activation). IsIn (option_to_list (ctx_arc_of callers o (change syms e s).kept)) k)
+          elim (subst (λ (o : Option Activation). IsIn (option_to_list (ctx_arc_of callers o (change syms e s).rest)) k)
           none
           there) [ ]
       by (inr p) =
-          let a = entered syms e p.0 (change syms e s).kept in
+          let a = new_activation syms e p.0 (change syms e s).rest in
           let known =
           plain.pushed_known syms knows e s all a
           (subst (λ (o : Option Activation). IsIn (option_to_list o) a) (sym p.1) (inl refl)) in
-          arc_known a (change syms e s).kept (on a known) (entered_from e p.0 (change syms e s).kept) k
-          (subst (λ (o : Option Activation). IsIn (option_to_list (ctx_arc_of callers o (change syms e s).kept)) k) p.1
+          arc_known a (change syms e s).rest (on a known) (entered_from e p.0 (change syms e s).rest) k
+          (subst (λ (o : Option Activation). IsIn (option_to_list (ctx_arc_of callers o (change syms e s).rest)) k) p.1
           there)
         where
-          on : (a : Activation) → plain.IsKnown syms knows a → AreKnownIn (a ∷ (change syms e s).kept)
+          on : (a : Activation) → plain.IsKnown syms knows a → AreKnownIn (a ∷ (change syms e s).rest)
           on a known b (inl is) = subst (plain.IsKnown syms knows) is known
           on a known b (inr inside) = kept b inside
 
-  module _ (xs : List Seen) (stand : AllByRecursion (StandsOn syms) xs)
+  module _ (xs : List EventOnStack) (stand : AllByRecursion (StandsOn syms) xs)
       (reached : AllByRecursion (IsReached syms) xs) where
-    stack_known : (x : Seen) → IsIn xs x → AreKnownIn x.stack
+    stack_known : (x : EventOnStack) → IsIn xs x → AreKnownIn x.stack
     stack_known x there =
         let r = of_all (IsReached syms) xs reached x there in
         subst AreKnownIn (sym r.is) (plain.stack_known syms knows r.events r.first)

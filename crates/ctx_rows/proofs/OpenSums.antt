@@ -10,7 +10,7 @@ use Rattle.std.proofs.lemmas.List.Sums.{sum_by-append, sum_by-cons}
 use Rattle.event_costs.specs.Arcs.{Telling, Pushed, Closed}
 use Rattle.event_costs.specs.Costs.{IsWhole, difference_of_costs, event_kinds, no_cost, sum_of_costs}
 use Rattle.event_costs.specs.Keys.{ArcKey}
-use Rattle.shadow_stack.specs.Frames.{StartWithin, closing, closings, frame_of, pushing, restarted, restarted_at}
+use Rattle.shadow_stack.specs.Frames.{StartWithin, closing, closings, frame_of, pushing, restarted_frames, restarted_frame}
 use Rattle.shadow_stack.specs.Frames.{with_frame}
 use Rattle.shadow_stack.specs.Stacks.{Activation, Stack}
 use Rattle.shadow_stack.specs.declared.frame.Frame.{Frame}
@@ -18,8 +18,8 @@ use Rattle.shadow_stack.proofs.TellingLemmas.{StartWithin-tail}
 use Rattle.arc_costs.specs.Arcs.{call_of_arc, cost_of_arc}
 use Rattle.arc_costs.specs.Rows.{ArcRow}
 use Rattle.arc_costs.proofs.RowLemmas.{number_of_sum, sum_at-append, sum_at_one, zero_replicate}
-use Rattle.recorder.specs.Notes.{told_rows}
-use Rattle.recorder.specs.inner.TellerLaws.{told_rows-append}
+use Rattle.recorder.specs.Notes.{rows_of_tellings}
+use Rattle.recorder.specs.inner.TellerLaws.{rows_of_tellings-append}
 use Rattle.ctx_rows.specs.Contexts.{Context}
 use Rattle.ctx_rows.specs.Rows.{arc_of, arc_sum, call_sum}
 use Rattle.ctx_rows.specs.Sums.{CtxArcKey, ctx_arcs, entered_by, is_arc, same_arc}
@@ -126,10 +126,10 @@ module _ (cs : List Context) where
       omega (arith, all, none)
 
   pub open-restarted : (kind : ℕ) (total : List ℕ) (k : CtxArcKey) (fs : List Frame)
-      → open_named kind total k (restarted total fs) ≡ 0
+      → open_named kind total k (restarted_frames total fs) ≡ 0
   open-restarted kind total k [] = refl
   open-restarted kind total k (f ∷ fs) =
-      let all = open-cons kind total k (restarted_at total f) (restarted total fs) in
+      let all = open-cons kind total k (restarted_frame total f) (restarted_frames total fs) in
       let none = either_zero (is_arc k (from_of cs f)) (get_or total kind 0 - get_or total kind 0) (omega arith) in
       let rest = open-restarted kind total k fs in
       omega (arith, all, none, rest)
@@ -137,22 +137,22 @@ module _ (cs : List Context) where
   -- ---- what is told of frames that go and of one that comes
 
   abbrev named_told : List Telling → List CtxArc
-  named_told ts = map (named_arc cs) (told_rows ts)
+  named_told ts = map (named_arc cs) (rows_of_tellings ts)
 
   told-append : (ts us : List Telling) → named_told (ts ++ us) ≡ named_told ts ++ named_told us
   told-append ts us =
-      ap (map (named_arc cs)) (told_rows-append ts us) ∙ map-append (named_arc cs) (told_rows ts) (told_rows us)
+      ap (map (named_arc cs)) (rows_of_tellings-append ts us) ∙ map-append (named_arc cs) (rows_of_tellings ts) (rows_of_tellings us)
 
   pub named_costs-append : (kind : ℕ) (k : CtxArcKey) (ts us : List Telling)
-      → arc_sum kind k (map (named_arc cs) (told_rows (ts ++ us)))
-      ≡ arc_sum kind k (map (named_arc cs) (told_rows ts)) + arc_sum kind k (map (named_arc cs) (told_rows us))
+      → arc_sum kind k (map (named_arc cs) (rows_of_tellings (ts ++ us)))
+      ≡ arc_sum kind k (map (named_arc cs) (rows_of_tellings ts)) + arc_sum kind k (map (named_arc cs) (rows_of_tellings us))
   named_costs-append kind k ts us =
       ap (arc_sum kind k) (told-append ts us)
       ∙ sum_at-append arc_of same_arc (λ (r : CtxArc). get_or r.cost kind 0) k (named_told ts) (named_told us)
 
   pub named_calls-append : (k : CtxArcKey) (ts us : List Telling)
-      → call_sum k (map (named_arc cs) (told_rows (ts ++ us)))
-      ≡ call_sum k (map (named_arc cs) (told_rows ts)) + call_sum k (map (named_arc cs) (told_rows us))
+      → call_sum k (map (named_arc cs) (rows_of_tellings (ts ++ us)))
+      ≡ call_sum k (map (named_arc cs) (rows_of_tellings ts)) + call_sum k (map (named_arc cs) (rows_of_tellings us))
   named_calls-append k ts us =
       ap (call_sum k) (told-append ts us)
       ∙ sum_at-append arc_of same_arc (λ (r : CtxArc). r.calls) k (named_told ts) (named_told us)
@@ -175,7 +175,7 @@ module _ (cs : List Context) where
       ∙ ap (λ n. if same_arc k (named_key cs key) then n else 0) (number_of_difference total f.start kind below)
 
   pub closings_costs : (kind : ℕ) (total : List ℕ) (k : CtxArcKey) (fs : List Frame) → StartWithin total fs
-      → arc_sum kind k (map (named_arc cs) (told_rows (closings total fs))) ≡ open_named kind total k fs
+      → arc_sum kind k (map (named_arc cs) (rows_of_tellings (closings total fs))) ≡ open_named kind total k fs
   closings_costs kind total k [] all = refl
   closings_costs kind total k (f ∷ fs) all =
       let here = closing_cost kind total k f f.from (starts_head total f fs all) in
@@ -192,7 +192,7 @@ module _ (cs : List Context) where
       ∙ either_zero (same_arc k (named_key cs key)) 0 refl
 
   pub closings_calls : (total : List ℕ) (k : CtxArcKey) (fs : List Frame)
-      → call_sum k (map (named_arc cs) (told_rows (closings total fs))) ≡ 0
+      → call_sum k (map (named_arc cs) (rows_of_tellings (closings total fs))) ≡ 0
   closings_calls total k [] = refl
   closings_calls total k (f ∷ fs) =
       let here = closing_calls total k f f.from in
@@ -201,7 +201,7 @@ module _ (cs : List Context) where
       omega (arith, here, rest, parts)
 
   pub pushing_costs : (kind : ℕ) (k : CtxArcKey) (p : Option Activation)
-      → arc_sum kind k (map (named_arc cs) (told_rows (pushing p))) ≡ 0
+      → arc_sum kind k (map (named_arc cs) (rows_of_tellings (pushing p))) ≡ 0
   pushing_costs kind k None = refl
   pushing_costs kind k (Some a) = by a.arc
     where
@@ -217,7 +217,7 @@ module _ (cs : List Context) where
   arc_named (Some a) = option_map (named_key cs) a.arc
 
   pub pushing_calls : (k : CtxArcKey) (p : Option Activation)
-      → call_sum k (map (named_arc cs) (told_rows (pushing p))) ≡ (if is_arc k (arc_named p) then 1 else 0)
+      → call_sum k (map (named_arc cs) (rows_of_tellings (pushing p))) ≡ (if is_arc k (arc_named p) then 1 else 0)
   pushing_calls k None = refl
   pushing_calls k (Some a) = by a.arc
     where

@@ -7,19 +7,19 @@ use Rattle.event_costs.specs.declared.numbers.ThreadNo.{ThreadNo}
 use Rattle.cg_format.specs.declared.trigger.Trigger.{Trigger}
 use Rattle.cg_format.specs.declared.trigger.Trigger.TheVariants.{Termination}
 use Rattle.sym_map.specs.SymbolMap.{SymbolMap}
-use Rattle.shadow_stack.specs.Traces.{Seen}
+use Rattle.shadow_stack.specs.Traces.{EventOnStack}
 use Rattle.arc_costs.specs.Contents.{Listed}
 use Rattle.cg_format.specs.declared.head.PartHead.{PartHead}
 use Rattle.part_dump.specs.Calls.{Call, Readies, Sees, Writes, calls, closed_calls, steps_calls}
-use Rattle.part_dump.specs.Cuts.{Asked, cuts}
+use Rattle.part_dump.specs.Cuts.{DumpPoints, cuts}
 use Rattle.part_dump.specs.Files.{part_name}
-use Rattle.part_dump.specs.Steps.{Step, own, own_seen, thread_of, threads}
-use Rattle.part_dump.specs.Watched.{FitAll, Fits, Watched}
+use Rattle.part_dump.specs.Steps.{Step, steps_of_thread, events_on_stack_of, thread_of, threads}
+use Rattle.part_dump.specs.Watched.{FitAll, Fits, AreWatched}
 use Rattle.part_dump.specs.Watching.{after_call, put_of, puts}
 use Rattle.ctx_rows.specs.Files.{closed_files, ctx_files, segment_files, thread_files}
 use Rattle.ctx_rows.specs.Rows.{CtxListed, ctx_rows_of}
 use Rattle.ctx_rows.specs.Since.{since, since_by}
-use Rattle.ctx_rows.specs.States.{State}
+use Rattle.ctx_rows.specs.States.{CtxState}
 use Rattle.ctx_rows.specs.Telling.{rows_in}
 use Rattle.ctx_rows.specs.Texts.{ctx_text}
 use Rattle.ctx_rows.specs.Watching.{IsFresh, by_context}
@@ -29,34 +29,34 @@ use Rattle.ctx_rows.proofs.HoldsLemmas.{Holds, since_more}
 use Rattle.ctx_rows.proofs.LastLemmas.{fresh_holds, holds_more, known_part, rows_now}
 
 -- a step counts with its own stack
-abbrev itself : List Step → Step → Seen
-itself past x = x.seen
+abbrev itself : List Step → Step → EventOnStack
+itself past x = x.on_stack
 
-seen_itself : (t : ℕ) (past xs : List Step) → seen_in itself t past xs ≡ own_seen t xs
+seen_itself : (t : ℕ) (past xs : List Step) → seen_in itself t past xs ≡ events_on_stack_of t xs
 seen_itself t past [] = refl
 seen_itself t past (x ∷ xs) = by (thread_of x == t) (seen_itself t (past ++ x ∷ []) xs)
   where
-    by : (b : Bool) → seen_in itself t (past ++ x ∷ []) xs ≡ own_seen t xs
-        → (if b then x.seen ∷ seen_in itself t (past ++ x ∷ []) xs else seen_in itself t (past ++ x ∷ []) xs)
-        ≡ map (λ (y : Step). y.seen) (if b then x ∷ own t xs else own t xs)
-    by true rest = ap (λ ys. x.seen ∷ ys) rest
+    by : (b : Bool) → seen_in itself t (past ++ x ∷ []) xs ≡ events_on_stack_of t xs
+        → (if b then x.on_stack ∷ seen_in itself t (past ++ x ∷ []) xs else seen_in itself t (past ++ x ∷ []) xs)
+        ≡ map (λ (y : Step). y.on_stack) (if b then x ∷ steps_of_thread t xs else steps_of_thread t xs)
+    by true rest = ap (λ ys. x.on_stack ∷ ys) rest
     by false rest = rest
 
-call_itself : (t : ℕ) (past : List Step) (c : Call) (before : List Seen)
+call_itself : (t : ℕ) (past : List Step) (c : Call) (before : List EventOnStack)
     → since_by t c before ≡ told.since_by itself t past c before
 call_itself t past (Readies thread pc) before = refl
 call_itself t past (Sees x) before = refl
 call_itself t past (Writes head rows) before = refl
 
 module _ (callers : ℕ) (syms : SymbolMap) (base : List ℕ) where
-  abbrev file : PartHead → List Seen → List Named
+  abbrev file : PartHead → List EventOnStack → List Named
   file head xs = (part_name base head.part head.thread.0, ctx_text head (ctx_rows_of callers syms xs) syms) ∷ []
 
-  abbrev put_all : List Step → (ℕ → List Seen) → List Call → List Named
+  abbrev put_all : List Step → (ℕ → List EventOnStack) → List Call → List Named
   put_all = told.put_all itself file
 
   -- what a watch puts
-  pub puts_are : (past : List Step) (w : State) (earlier cs : List Call) → Holds syms callers w earlier
+  pub puts_are : (past : List Step) (w : CtxState) (earlier cs : List Call) → Holds syms callers w earlier
       → FitAll syms earlier cs → puts by_context syms base w cs ≡ put_all past (λ t. since t earlier) cs
   puts_are past w earlier [] holds fit = refl
   puts_are past w earlier (c ∷ cs) holds fit =
@@ -87,12 +87,12 @@ module _ (callers : ℕ) (syms : SymbolMap) (base : List ℕ) where
         ≡ segment_files callers head syms base part segment trigger
     segment_is earlier part segment trigger =
         flat_same
-        (λ t. thread_put itself file head part trigger t (seen_in itself t earlier segment) (own_seen t segment))
-        (λ t. thread_files callers head syms base part trigger t (own_seen t segment))
-        (λ t. ap (λ xs. thread_put itself file head part trigger t xs (own_seen t segment))
-        (seen_itself t earlier segment) ∙ each t (own_seen t segment)) (threads segment)
+        (λ t. thread_put itself file head part trigger t (seen_in itself t earlier segment) (events_on_stack_of t segment))
+        (λ t. thread_files callers head syms base part trigger t (events_on_stack_of t segment))
+        (λ t. ap (λ xs. thread_put itself file head part trigger t xs (events_on_stack_of t segment))
+        (seen_itself t earlier segment) ∙ each t (events_on_stack_of t segment)) (threads segment)
       where
-        each : (t : ℕ) (xs : List Seen) → thread_put itself file head part trigger t xs xs
+        each : (t : ℕ) (xs : List EventOnStack) → thread_put itself file head part trigger t xs xs
             ≡ thread_files callers head syms base part trigger t xs
         each t [] = refl
         each t (x ∷ xs) = refl
@@ -106,12 +106,12 @@ module _ (callers : ℕ) (syms : SymbolMap) (base : List ℕ) where
 
 -- ---- the files of a watched run
 
-module _ (rows_of : List Seen → Listed) (head : PartHead) (syms : SymbolMap) (base : List ℕ) (asked : Asked)
-    (trace : List Step) (first : State) (fresh : IsFresh first) where
+module _ (rows_of : List EventOnStack → Listed) (head : PartHead) (syms : SymbolMap) (base : List ℕ) (asked : DumpPoints)
+    (trace : List Step) (first : CtxState) (fresh : IsFresh first) where
   abbrev closed : List (List Step × Trigger)
   closed = (cuts syms asked trace).closed
 
-  pub run_puts : (tried : Option (ThreadNo × ℕ)) → Watched syms (calls rows_of head syms asked trace tried)
+  pub run_puts : (tried : Option (ThreadNo × ℕ)) → AreWatched syms (calls rows_of head syms asked trace tried)
       → puts by_context syms base first (calls rows_of head syms asked trace tried)
       ≡ ctx_files first.callers head syms base asked trace
   unfolding ctx_files
@@ -123,7 +123,7 @@ module _ (rows_of : List Seen → Listed) (head : PartHead) (syms : SymbolMap) (
       ++ segment_is first.callers syms base head (steps_in_all itself (file first.callers syms base) closed)
       (length closed + 1) (cuts syms asked trace).recent Termination i)
 
-  pub cut_puts : Watched syms (closed_calls rows_of head (cuts syms asked trace).closed
+  pub cut_puts : AreWatched syms (closed_calls rows_of head (cuts syms asked trace).closed
       ++ steps_calls (cuts syms asked trace).recent)
       → puts by_context syms base first (closed_calls rows_of head (cuts syms asked trace).closed
       ++ steps_calls (cuts syms asked trace).recent)

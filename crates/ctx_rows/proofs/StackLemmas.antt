@@ -4,7 +4,7 @@ use Rattle.std.proofs.Common.{Some, drop, length, refl, ap, sym, subst, arith, i
 use Rattle.std.proofs.lemmas.List.Sums.{sum_by-cons}
 use Rattle.event_costs.specs.declared.event.Event.{Event}
 use Rattle.sym_map.specs.SymbolMap.{SymbolMap}
-use Rattle.shadow_stack.specs.Changes.{after, change, entered, gone, with_pushed}
+use Rattle.shadow_stack.specs.Changes.{after, change, new_activation, drop_count, with_pushed}
 use Rattle.shadow_stack.specs.Kinds.{is_root}
 use Rattle.shadow_stack.specs.Stacks.{Activation, Stack, root}
 use Rattle.shadow_stack.specs.declared.frame.Kind.{Kind}
@@ -20,7 +20,7 @@ entered_drop (suc n) [] all = tt
 entered_drop (suc n) (a ∷ s) all = entered_drop n s all.2
 
 entered_on : (syms : SymbolMap) (e : Event) (kind : Kind) (s : Stack) → is_root kind ≡ false → AreEntered s
-    → AreEntered (entered syms e kind s ∷ s)
+    → AreEntered (new_activation syms e kind s ∷ s)
 entered_on syms e kind [] other all = (tt, tt, tt)
 entered_on syms e kind (a ∷ s) other all = ((refl, refl), other, all)
 
@@ -28,18 +28,18 @@ entered_on syms e kind (a ∷ s) other all = ((refl, refl), other, all)
 pub entered_after : (syms : SymbolMap) (e : Event) (s : Stack) → AreEntered s → AreEntered (after syms s e)
 entered_after syms e s all = by (change_push syms e s)
   where
-    kept : AreEntered (change syms e s).kept
-    kept = subst AreEntered (kept_stack syms e s) (entered_drop (gone syms e s) s all)
+    kept : AreEntered (change syms e s).rest
+    kept = subst AreEntered (kept_stack syms e s) (entered_drop (drop_count syms e s) s all)
 
     by : ((change syms e s).pushed ≡ None)
-        ⊎ ((kind : Kind) × ((change syms e s).pushed ≡ Some (entered syms e kind (change syms e s).kept))
+        ⊎ ((kind : Kind) × ((change syms e s).pushed ≡ Some (new_activation syms e kind (change syms e s).rest))
         × (is_root kind ≡ false))
         → AreEntered (after syms s e)
     by (inl none) =
-        subst (λ (o : Option Activation). AreEntered (with_pushed o (change syms e s).kept)) (sym none) kept
+        subst (λ (o : Option Activation). AreEntered (with_pushed o (change syms e s).rest)) (sym none) kept
     by (inr p) =
-        subst (λ (o : Option Activation). AreEntered (with_pushed o (change syms e s).kept)) (sym p.1)
-        (entered_on syms e p.0 (change syms e s).kept p.2 kept)
+        subst (λ (o : Option Activation). AreEntered (with_pushed o (change syms e s).rest)) (sym p.1)
+        (entered_on syms e p.0 (change syms e s).rest p.2 kept)
 
 pub entered_root : (syms : SymbolMap) (pc : ℕ) → AreEntered (root syms pc)
 entered_root syms pc = (tt, tt, tt)

@@ -11,10 +11,10 @@ use Rattle.event_costs.specs.declared.event.Event.{Event}
 use Rattle.event_costs.specs.Keys.{ArcKey, Place}
 use Rattle.event_costs.specs.declared.numbers.ThreadNo.{ThreadNo}
 use Rattle.sym_map.specs.SymbolMap.{SymbolMap, place_of}
-use Rattle.shadow_stack.specs.Changes.{Change, change, entered, gone, with_pushed}
-use Rattle.shadow_stack.specs.Frames.{StartWithin, closing, closings, pushing, restarted, with_frame}
+use Rattle.shadow_stack.specs.Changes.{Change, change, new_activation, drop_count, with_pushed}
+use Rattle.shadow_stack.specs.Frames.{StartWithin, closing, closings, pushing, restarted_frames, with_frame}
 use Rattle.shadow_stack.specs.Stacks.{Activation, Stack, is_rooted, root}
-use Rattle.shadow_stack.specs.Traces.{Seen}
+use Rattle.shadow_stack.specs.Traces.{EventOnStack}
 use Rattle.shadow_stack.specs.declared.frame.Frame.{Frame}
 use Rattle.shadow_stack.specs.declared.frame.Kind.TheVariants.{Root}
 use Rattle.shadow_stack.proofs.FrameLemmas.{StartWithin-drop, StartWithin-restarted}
@@ -26,8 +26,8 @@ use Rattle.arc_costs.specs.Lines as lines
 use Rattle.event_costs.specs.Order as order
 use Rattle.arc_costs.specs.Rows.{ArcRow, LineRow}
 use Rattle.arc_costs.proofs.RowLemmas.{number_of_sum, sum_at_none, zero_replicate}
-use Rattle.recorder.specs.Notes.{told_rows}
-use Rattle.recorder.specs.inner.TellerLaws.{told_rows-append}
+use Rattle.recorder.specs.Notes.{rows_of_tellings}
+use Rattle.recorder.specs.inner.TellerLaws.{rows_of_tellings-append}
 use Rattle.recorder.proofs.BookLemmas.{StartWithin-take, starts_grown, whole_sum}
 use Rattle.recorder.proofs.EnteredLemmas.{IsPushed, pushes_what}
 use Rattle.recorder.proofs.StandingLemmas.{one_more_sum}
@@ -41,8 +41,8 @@ use Rattle.ctx_rows.specs.declared.rows.CtxArc.{CtxArc}
 use Rattle.ctx_rows.specs.declared.rows.CtxLine.{CtxLine}
 use Rattle.ctx_rows.proofs.NumberLemmas.{number_is}
 use Rattle.ctx_rows.specs.Telling.{named_arc, named_line}
-use Rattle.ctx_rows.specs.States.{Track, begun, contexts_after, contexts_with, cut_off, dropped}
-use Rattle.ctx_rows.specs.States.{kept, pushed, pushed_frame, seen_on, top_number}
+use Rattle.ctx_rows.specs.States.{Track, first_track, contexts_after, contexts_with, track_after_cut, dropped_track_frames}
+use Rattle.ctx_rows.specs.States.{kept_track_frames, pushed_track_frame, pushed_frame, track_after_event, top_number}
 use Rattle.ctx_rows.specs.Tracks.{AreNumbered, IsArcOf, IsNumber}
 use Rattle.ctx_rows.proofs.FrameLemmas.{kept_stack, numbered_kept, numbered_more, numbered_restarted}
 use Rattle.ctx_rows.proofs.FrameLemmas.{numbered_top, read_there}
@@ -56,7 +56,7 @@ use Rattle.ctx_rows.proofs.OpenSums as opened
 
 -- A thread's rows, by the contexts of their numbers and with its open frames' costs counted in, have the sums of these
 -- events.
-pub record IsTracked (callers : ℕ) (cs : List Context) (syms : SymbolMap) (since : List Seen) (t : Track) : Type 0 where
+pub record IsTracked (callers : ℕ) (cs : List Context) (syms : SymbolMap) (since : List EventOnStack) (t : Track) : Type 0 where
   pub whole : IsWhole t.total
   pub starts : StartWithin t.total t.frames
   pub whole_lines : AllByRecursion (λ (r : LineRow). IsWhole r.cost) t.lines
@@ -87,7 +87,7 @@ open_more cs c kind total k (f ∷ fs) all =
     let rest = open_more cs c kind total k fs all.1 in
     omega (arith, left, right, here, rest)
 
-module _ (callers : ℕ) (cs : List Context) (syms : SymbolMap) (since : List Seen) (t : Track) where
+module _ (callers : ℕ) (cs : List Context) (syms : SymbolMap) (since : List EventOnStack) (t : Track) where
   pub tracked_more : (c : Context) → IsTracked callers cs syms since t
       → IsTracked callers (with_context cs c) syms since t
   tracked_more c old = record {
@@ -150,49 +150,49 @@ difference_whole (x ∷ xs) (y ∷ ys) within = ap suc (difference_whole xs ys w
 -- what is told of frames that go has whole costs, and arcs in range
 module _ (total : List ℕ) (whole : IsWhole total) where
   closings_whole : (fs : List Frame) → StartWithin total fs
-      → AllByRecursion (λ (r : ArcRow). IsWhole r.cost) (told_rows (closings total fs))
+      → AllByRecursion (λ (r : ArcRow). IsWhole r.cost) (rows_of_tellings (closings total fs))
   closings_whole [] all = tt
   closings_whole (f ∷ fs) all =
       subst (AllByRecursion (λ (r : ArcRow). IsWhole r.cost))
-      (sym (told_rows-append (closing total f) (closings total fs)))
-      (all_append (λ (r : ArcRow). IsWhole r.cost) (told_rows (closing total f)) (told_rows (closings total fs))
+      (sym (rows_of_tellings-append (closing total f) (closings total fs)))
+      (all_append (λ (r : ArcRow). IsWhole r.cost) (rows_of_tellings (closing total f)) (rows_of_tellings (closings total fs))
       (by f.from) (closings_whole fs (StartWithin-tail total (f ∷ fs) fs f refl all)))
     where
       by : (from : Option ArcKey) → AllByRecursion (λ (r : ArcRow). IsWhole r.cost)
-          (told_rows (option_map_or (λ key. Closed key (difference_of_costs total f.start) ∷ []) from []))
+          (rows_of_tellings (option_map_or (λ key. Closed key (difference_of_costs total f.start) ∷ []) from []))
       by None = tt
       by (Some key) = (difference_whole total f.start (all 0 f (omega arith)) ∙ whole, tt)
 
 closings_numbers : (count : ℕ) (total : List ℕ) (fs : List Frame) → AllByRecursion (IsEnteredOf count) fs
-    → AllByRecursion (λ (r : ArcRow). IsArcOf count r.arc) (told_rows (closings total fs))
+    → AllByRecursion (λ (r : ArcRow). IsArcOf count r.arc) (rows_of_tellings (closings total fs))
 closings_numbers count total [] all = tt
 closings_numbers count total (f ∷ fs) all =
     subst (AllByRecursion (λ (r : ArcRow). IsArcOf count r.arc))
-    (sym (told_rows-append (closing total f) (closings total fs)))
-    (all_append (λ (r : ArcRow). IsArcOf count r.arc) (told_rows (closing total f)) (told_rows (closings total fs))
+    (sym (rows_of_tellings-append (closing total f) (closings total fs)))
+    (all_append (λ (r : ArcRow). IsArcOf count r.arc) (rows_of_tellings (closing total f)) (rows_of_tellings (closings total fs))
     (by f.from all.0) (closings_numbers count total fs all.1))
   where
     by : (from : Option ArcKey) → IfSome from (IsArcOf count) → AllByRecursion (λ (r : ArcRow). IsArcOf count r.arc)
-        (told_rows (option_map_or (λ key. Closed key (difference_of_costs total f.start) ∷ []) from []))
+        (rows_of_tellings (option_map_or (λ key. Closed key (difference_of_costs total f.start) ∷ []) from []))
     by None of = tt
     by (Some key) of = (of, tt)
 
-pushing_whole : (p : Option Activation) → AllByRecursion (λ (r : ArcRow). IsWhole r.cost) (told_rows (pushing p))
+pushing_whole : (p : Option Activation) → AllByRecursion (λ (r : ArcRow). IsWhole r.cost) (rows_of_tellings (pushing p))
 pushing_whole None = tt
 pushing_whole (Some a) = by a.arc
   where
     by : (from : Option ArcKey) → AllByRecursion (λ (r : ArcRow). IsWhole r.cost)
-        (told_rows (option_map_or (λ key. Pushed key ∷ []) from []))
+        (rows_of_tellings (option_map_or (λ key. Pushed key ∷ []) from []))
     by None = tt
     by (Some key) = (refl, tt)
 
 pushing_numbers : (count : ℕ) (p : Option Activation) → IfSome p (λ a. IfSome a.arc (IsArcOf count))
-    → AllByRecursion (λ (r : ArcRow). IsArcOf count r.arc) (told_rows (pushing p))
+    → AllByRecursion (λ (r : ArcRow). IsArcOf count r.arc) (rows_of_tellings (pushing p))
 pushing_numbers count None of = tt
 pushing_numbers count (Some a) of = by a.arc of
   where
     by : (from : Option ArcKey) → IfSome from (IsArcOf count) → AllByRecursion (λ (r : ArcRow). IsArcOf count r.arc)
-        (told_rows (option_map_or (λ key. Pushed key ∷ []) from []))
+        (rows_of_tellings (option_map_or (λ key. Pushed key ∷ []) from []))
     by None of_ = tt
     by (Some key) of_ = (of_, tt)
 
@@ -204,7 +204,7 @@ entered_with count total (Some a) fs of all = (of, all)
 
 -- ---- a step
 
-module _ (callers : ℕ) (cs : List Context) (syms : SymbolMap) (since : List Seen) (e : Event)
+module _ (callers : ℕ) (cs : List Context) (syms : SymbolMap) (since : List EventOnStack) (e : Event)
     (cost : List ℕ) (t : Track)
     (old : IsTracked callers cs syms since t) (live : 0 < length t.stack) (rooted : is_rooted t.stack ≡ true)
     (one : IsWhole cost) where
@@ -218,63 +218,63 @@ module _ (callers : ℕ) (cs : List Context) (syms : SymbolMap) (since : List Se
   at = place_of syms e.done.pc
 
   abbrev stay : List Frame
-  stay = kept syms e t
+  stay = kept_track_frames syms e t
 
-  abbrev x : Seen
+  abbrev x : EventOnStack
   x = record { event = e; cost = cost; stack = t.stack }
 
-  stay_numbered : AreNumbered callers cs stay made.kept
+  stay_numbered : AreNumbered callers cs stay made.rest
   stay_numbered = numbered_kept callers cs syms e t old.numbered
 
   stay_entered : AllByRecursion (IsEnteredOf (length cs)) stay
-  stay_entered = all_drop (IsEnteredOf (length cs)) (gone syms e t.stack) t.frames old.frame_numbers
+  stay_entered = all_drop (IsEnteredOf (length cs)) (drop_count syms e t.stack) t.frames old.frame_numbers
 
-  stay_arced : map (from_of cs) stay ≡ ctx_arcs callers made.kept
+  stay_arced : map (from_of cs) stay ≡ ctx_arcs callers made.rest
   stay_arced =
-      drop_map (from_of cs) (gone syms e t.stack) t.frames ∙ ap (drop (gone syms e t.stack)) old.arced
-      ∙ drop_arcs callers (gone syms e t.stack) t.stack ∙ ap (ctx_arcs callers) (kept_stack syms e t.stack)
+      drop_map (from_of cs) (drop_count syms e t.stack) t.frames ∙ ap (drop (drop_count syms e t.stack)) old.arced
+      ∙ drop_arcs callers (drop_count syms e t.stack) t.stack ∙ ap (ctx_arcs callers) (kept_stack syms e t.stack)
 
   -- what may be pushed, the contexts with it, and its frame
   abbrev contexts_of : Option Activation → List Context
-  contexts_of p = contexts_with callers cs p made.kept
+  contexts_of p = contexts_with callers cs p made.rest
 
   abbrev frame_for : Option Activation → Option Activation
-  frame_for p = pushed_frame callers cs at stay (record { kept = made.kept; pushed = p })
+  frame_for p = pushed_frame callers cs at stay (record { rest = made.rest; pushed = p })
 
   record Comes (p : Option Activation) : Type 0 where
-    arc : opened.arc_named (contexts_of p) (frame_for p) ≡ ctx_arc_of callers p made.kept
+    arc : opened.arc_named (contexts_of p) (frame_for p) ≡ ctx_arc_of callers p made.rest
     range : IfSome (frame_for p) (λ a. IfSome a.arc (IsArcOf (length (contexts_of p))))
-    numbered : AreNumbered callers (contexts_of p) (with_frame total (frame_for p) stay) (with_pushed p made.kept)
+    numbered : AreNumbered callers (contexts_of p) (with_frame total (frame_for p) stay) (with_pushed p made.rest)
     froms : map (from_of (contexts_of p)) (with_frame total (frame_for p) stay)
-        ≡ ctx_arcs callers (with_pushed p made.kept)
+        ≡ ctx_arcs callers (with_pushed p made.rest)
 
   comes_none : Comes None
   comes_none = record { arc = refl; range = tt; numbered = stay_numbered; froms = stay_arced }
 
   module _ (p : IsPushed syms e t.stack) where
     abbrev a : Activation
-    a = entered syms e p.kind (p.caller ∷ p.under)
+    a = new_activation syms e p.kind (p.caller ∷ p.under)
 
     abbrev c : Context
-    c = context callers (a ∷ made.kept)
+    c = context callers (a ∷ made.rest)
 
-    some_stay : 0 < length made.kept
-    some_stay = subst (λ (s : Stack). 0 < length s) (sym p.kept) (omega arith)
+    some_stay : 0 < length made.rest
+    some_stay = subst (λ (s : Stack). 0 < length s) (sym p.rest) (omega arith)
 
     beneath : (top_number stay).0 < length cs
     beneath =
-        within_list cs (top_number stay).0 (context callers made.kept)
-        (numbered_top callers cs stay made.kept stay_numbered some_stay)
+        within_list cs (top_number stay).0 (context callers made.rest)
+        (numbered_top callers cs stay made.rest stay_numbered some_stay)
 
-    beneath_is : context_at cs (top_number stay) ≡ context callers made.kept
+    beneath_is : context_at cs (top_number stay) ≡ context callers made.rest
     beneath_is =
-        read_there cs (top_number stay).0 (context callers made.kept)
-        (numbered_top callers cs stay made.kept stay_numbered some_stay)
+        read_there cs (top_number stay).0 (context callers made.rest)
+        (numbered_top callers cs stay made.rest stay_numbered some_stay)
 
     new_in : (number cs c).0 < length (with_context cs c)
     new_in = within_list (with_context cs c) (number cs c).0 c (number_is cs c)
 
-    arc_is : opened.arc_named (with_context cs c) (frame_for (Some a)) ≡ ctx_arc callers a made.kept
+    arc_is : opened.arc_named (with_context cs c) (frame_for (Some a)) ≡ ctx_arc callers a made.rest
     arc_is =
         let under = at_more cs c (top_number stay) beneath ∙ beneath_is in
         let top = at_number cs c in
@@ -284,7 +284,7 @@ module _ (callers : ℕ) (cs : List Context) (syms : SymbolMap) (since : List Se
     comes_some = record {
       arc = arc_is;
       range = (number_more cs c (top_number stay) beneath, new_in);
-      numbered = (number_is cs c, numbered_more callers cs c stay made.kept stay_numbered);
+      numbered = (number_is cs c, numbered_more callers cs c stay made.rest stay_numbered);
       froms = λ i. arc_is i ∷ (froms_more cs c stay stay_entered ∙ stay_arced) i;
     }
 
@@ -300,22 +300,22 @@ module _ (callers : ℕ) (cs : List Context) (syms : SymbolMap) (since : List Se
   ds = contexts_after callers cs made
 
   abbrev fresh : Option Activation
-  fresh = pushed callers cs syms e t
+  fresh = pushed_track_frame callers cs syms e t
 
   before : IsTracked callers ds syms since t
-  before = tracked_with callers cs syms since t made.pushed made.kept old
+  before = tracked_with callers cs syms since t made.pushed made.rest old
 
   abbrev goes : List Frame
-  goes = dropped syms e t
+  goes = dropped_track_frames syms e t
 
   abbrev news : List ArcRow
-  news = told_rows (closings total goes ++ pushing fresh)
+  news = rows_of_tellings (closings total goes ++ pushing fresh)
 
   starts_now : StartWithin total t.frames
   starts_now = starts_grown t.total cost t.frames old.whole one old.starts
 
   goes_start : StartWithin total goes
-  goes_start = StartWithin-take total (gone syms e t.stack) t.frames starts_now
+  goes_start = StartWithin-take total (drop_count syms e t.stack) t.frames starts_now
 
   whole_now : IsWhole total
   whole_now = whole_sum t.total cost old.whole one
@@ -323,18 +323,18 @@ module _ (callers : ℕ) (cs : List Context) (syms : SymbolMap) (since : List Se
   news_whole : AllByRecursion (λ (r : ArcRow). IsWhole r.cost) news
   news_whole =
       subst (AllByRecursion (λ (r : ArcRow). IsWhole r.cost))
-      (sym (told_rows-append (closings total goes) (pushing fresh)))
-      (all_append (λ (r : ArcRow). IsWhole r.cost) (told_rows (closings total goes)) (told_rows (pushing fresh))
+      (sym (rows_of_tellings-append (closings total goes) (pushing fresh)))
+      (all_append (λ (r : ArcRow). IsWhole r.cost) (rows_of_tellings (closings total goes)) (rows_of_tellings (pushing fresh))
       (closings_whole total whole_now goes goes_start) (pushing_whole fresh))
 
   news_numbers : AllByRecursion (λ (r : ArcRow). IsArcOf (length ds) r.arc) news
   news_numbers =
       subst (AllByRecursion (λ (r : ArcRow). IsArcOf (length ds) r.arc))
-      (sym (told_rows-append (closings total goes) (pushing fresh)))
-      (all_append (λ (r : ArcRow). IsArcOf (length ds) r.arc) (told_rows (closings total goes))
-      (told_rows (pushing fresh))
+      (sym (rows_of_tellings-append (closings total goes) (pushing fresh)))
+      (all_append (λ (r : ArcRow). IsArcOf (length ds) r.arc) (rows_of_tellings (closings total goes))
+      (rows_of_tellings (pushing fresh))
       (closings_numbers (length ds) total goes
-      (all_take (IsEnteredOf (length ds)) (gone syms e t.stack) t.frames before.frame_numbers))
+      (all_take (IsEnteredOf (length ds)) (drop_count syms e t.stack) t.frames before.frame_numbers))
       (pushing_numbers (length ds) fresh comes.range))
 
   -- where the event counts
@@ -361,7 +361,7 @@ module _ (callers : ℕ) (cs : List Context) (syms : SymbolMap) (since : List Se
       (λ r q. refl) (λ (r : LineRow). IsWhole r.cost) (λ (d : CtxLine). get_or d.cost kind 0)
       (λ r q one_ two. number_of_sum r.cost q.cost kind (one_ ∙ sym two)) t.lines (line counted cost) p
       before.whole_lines one in
-      let more = one_more_sum (λ (y : Seen). if same_place p (counts_at callers syms y)
+      let more = one_more_sum (λ (y : EventOnStack). if same_place p (counts_at callers syms y)
       then get_or y.cost kind 0 else 0)
       since x in
       let here = ap (λ (q : CtxPlace). if same_place p q then get_or cost kind 0 else 0) counted_at in
@@ -390,11 +390,11 @@ module _ (callers : ℕ) (cs : List Context) (syms : SymbolMap) (since : List Se
       let closed = opened.closings_costs ds kind total k goes goes_start in
       let none = opened.pushing_costs ds kind k fresh in
       let with_new = opened.open-fresh ds kind total k fresh stay in
-      let split = opened.open-split ds kind total k (gone syms e t.stack) t.frames in
+      let split = opened.open-split ds kind total k (drop_count syms e t.stack) t.frames in
       let grown = opened.open-grown ds kind t.total cost k t.frames old.whole one old.starts in
       let under : get_or cost kind 0 * opened.entered ds k t.frames ≡ get_or cost kind 0 * entered_by callers k t.stack
       = ap (λ n. get_or cost kind 0 * n) (opened.entered_is ds callers k t.frames t.stack before.arced) in
-      let more = one_more_sum (λ (y : Seen). get_or y.cost kind 0 * entered_by callers k y.stack) since x in
+      let more = one_more_sum (λ (y : EventOnStack). get_or y.cost kind 0 * entered_by callers k y.stack) since x in
       omega (arith, added_costs kind k, parts, closed, none, with_new, split, grown, under, more, before.arcs kind k)
 
   calls_now : (k : CtxArcKey) → call_sum k (map (named_arc ds) (add_arcs t.arcs news))
@@ -407,14 +407,14 @@ module _ (callers : ℕ) (cs : List Context) (syms : SymbolMap) (since : List Se
       (if is_arc k (pushed_arc callers made) then 1 else 0)
       = ap (λ (o : Option CtxArcKey). if is_arc k o then 1 else 0) comes.arc in
       let more =
-      one_more_sum (λ (y : Seen). if is_arc k (pushed_arc callers (change syms y.event y.stack)) then 1
+      one_more_sum (λ (y : EventOnStack). if is_arc k (pushed_arc callers (change syms y.event y.stack)) then 1
       else 0) since x in
       omega (arith, added_calls k, parts, none, comes_one, same, more, before.calls k)
 
-  pub tracked_seen : IsTracked callers ds syms (since ++ x ∷ []) (seen_on callers cs syms e cost t)
+  pub tracked_seen : IsTracked callers ds syms (since ++ x ∷ []) (track_after_event callers cs syms e cost t)
   tracked_seen = record {
     whole = whole_now;
-    starts = starts_with total fresh stay (StartWithin-drop total (gone syms e t.stack) t.frames starts_now);
+    starts = starts_with total fresh stay (StartWithin-drop total (drop_count syms e t.stack) t.frames starts_now);
     whole_lines =
         sums.all_add lines.place_of order.same_place plus_line (λ (r : LineRow). IsWhole r.cost)
         (λ r q one_ two. whole_sum r.cost q.cost one_ two) t.lines (line counted cost) old.whole_lines one;
@@ -429,7 +429,7 @@ module _ (callers : ℕ) (cs : List Context) (syms : SymbolMap) (since : List Se
         (λ r q one_ two. one_) news t.arcs before.arc_numbers news_numbers;
     frame_numbers =
         entered_with (length ds) total fresh stay comes.range
-        (all_drop (IsEnteredOf (length ds)) (gone syms e t.stack) t.frames before.frame_numbers);
+        (all_drop (IsEnteredOf (length ds)) (drop_count syms e t.stack) t.frames before.frame_numbers);
     numbered = comes.numbered;
     arced = comes.froms;
     lines = lines_now;
@@ -444,7 +444,7 @@ no_starts total k d less = absurd (omega (arith, less))
 
 pub tracked_begun : (callers : ℕ) (cs : List Context) (syms : SymbolMap) (thread : ThreadNo) (pc : ℕ)
     → IsTracked callers (with_context cs (context callers (root syms pc))) syms []
-    (begun thread (place_of syms pc).func (number cs (context callers (root syms pc))))
+    (first_track thread (place_of syms pc).func (number cs (context callers (root syms pc))))
 tracked_begun callers cs syms thread pc = record {
   whole = refl;
   starts = starts_with no_cost
@@ -484,12 +484,12 @@ cleared_arc_numbers count [] all = tt
 cleared_arc_numbers count (r ∷ rs) all = (all.0, cleared_arc_numbers count rs all.1)
 
 restarted_entered : (count : ℕ) (total : List ℕ) (fs : List Frame) → AllByRecursion (IsEnteredOf count) fs
-    → AllByRecursion (IsEnteredOf count) (restarted total fs)
+    → AllByRecursion (IsEnteredOf count) (restarted_frames total fs)
 restarted_entered count total [] all = tt
 restarted_entered count total (f ∷ fs) all = (all.0, restarted_entered count total fs all.1)
 
 restarted_froms : (cs : List Context) (total : List ℕ) (fs : List Frame)
-    → map (from_of cs) (restarted total fs) ≡ map (from_of cs) fs
+    → map (from_of cs) (restarted_frames total fs) ≡ map (from_of cs) fs
 restarted_froms cs total [] = refl
 restarted_froms cs total (f ∷ fs) = ap (λ (os : List (Option CtxArcKey)). from_of cs f ∷ os)
     (restarted_froms cs total fs)
@@ -526,8 +526,8 @@ cleared_call_sum cs k rs =
     none [] = tt
     none (q ∷ qs) = (refl, none qs)
 
-pub tracked_cut : (callers : ℕ) (cs : List Context) (syms : SymbolMap) (since : List Seen) (t : Track)
-    → IsTracked callers cs syms since t → IsTracked callers cs syms [] (cut_off t)
+pub tracked_cut : (callers : ℕ) (cs : List Context) (syms : SymbolMap) (since : List EventOnStack) (t : Track)
+    → IsTracked callers cs syms since t → IsTracked callers cs syms [] (track_after_cut t)
 tracked_cut callers cs syms since t old = record {
   whole = old.whole;
   starts = StartWithin-restarted t.total t.frames;

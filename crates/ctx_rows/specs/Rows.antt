@@ -5,7 +5,7 @@ use Rattle.std.specs.Option.{option_to_list}
 use Rattle.event_costs.specs.declared.numbers.ThreadNo.{ThreadNo}
 use Rattle.sym_map.specs.SymbolMap.{SymbolMap}
 use Rattle.shadow_stack.specs.Changes.{change}
-use Rattle.shadow_stack.specs.Traces.{Seen}
+use Rattle.shadow_stack.specs.Traces.{EventOnStack}
 use Rattle.arc_costs.specs.Rows as rows
 use Rattle.arc_costs.specs.Totals.{is_some_cost, is_some_total, total}
 use Rattle.arc_costs.specs.Keys.{by_kind, risen}
@@ -58,8 +58,8 @@ call_sum = rows.sum_at arc_of same_arc (λ row. row.calls)
 
 -- rows of any lines and arcs, summed up: each line and arc once, in order, with its sums; a row that is
 -- all 0 is left out
-abbrev pub summed : CtxListed → CtxListed
-summed all = record {
+abbrev pub summed_rows : CtxListed → CtxListed
+summed_rows all = record {
   lines = filter is_some_line
       (map (line_with (λ kind p. line_sum kind p all.lines)) (risen place_order (map place_of all.lines)));
   arcs = filter is_some_arc
@@ -68,13 +68,13 @@ summed all = record {
 }
 
 -- the arcs of the frames under an event, and that of the frame that it pushes
-abbrev pub arcs_at : ℕ → SymbolMap → Seen → List CtxArcKey
+abbrev pub arcs_at : ℕ → SymbolMap → EventOnStack → List CtxArcKey
 arcs_at callers syms x =
     flat_map option_to_list (ctx_arcs callers x.stack)
     ++ option_to_list (pushed_arc callers (change syms x.event x.stack))
 
 -- the rows of events
-unfoldable pub ctx_rows_of : ℕ → SymbolMap → List Seen → CtxListed
+unfoldable pub ctx_rows_of : ℕ → SymbolMap → List EventOnStack → CtxListed
 ctx_rows_of callers syms xs = record {
   lines = filter is_some_line
       (map (line_with (λ kind p. self_cost callers syms kind p xs))

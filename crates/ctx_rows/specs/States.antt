@@ -9,15 +9,15 @@ use Rattle.event_costs.specs.Keys.{ArcKey, Place}
 use Rattle.event_costs.specs.declared.numbers.FuncId.{FuncId}
 use Rattle.event_costs.specs.declared.numbers.ThreadNo.{ThreadNo}
 use Rattle.sym_map.specs.SymbolMap.{SymbolMap, place_of}
-use Rattle.shadow_stack.specs.Changes.{Change, after, change, gone}
-use Rattle.shadow_stack.specs.Frames.{closings, pushing, restarted, with_frame}
+use Rattle.shadow_stack.specs.Changes.{Change, after, change, drop_count}
+use Rattle.shadow_stack.specs.Frames.{closings, pushing, restarted_frames, with_frame}
 use Rattle.shadow_stack.specs.Stacks.{Activation, Stack, root}
 use Rattle.shadow_stack.specs.declared.frame.Frame.{Frame}
 use Rattle.shadow_stack.specs.declared.frame.Kind.TheVariants.{Jump, Root}
 use Rattle.arc_costs.specs.Arcs.{add_arcs, cleared_arcs}
 use Rattle.arc_costs.specs.Lines.{add_line, cleared_lines, line}
 use Rattle.arc_costs.specs.Rows.{ArcRow, LineRow}
-use Rattle.recorder.specs.Notes.{told_rows}
+use Rattle.recorder.specs.Notes.{rows_of_tellings}
 use Rattle.ctx_rows.specs.Contexts.{Context, context, number, with_context}
 
 -- A thread: its stack, and its account by the numbers of contexts. A frame stands for the context of the frame at its
@@ -34,7 +34,7 @@ pub record Track : Type 0 where
 -- How many callers a context has at most; the contexts by their numbers, in the order in which they came up; each
 -- thread in the order of their starts; and which one was made ready, if it hasn't stepped since: there is room for a
 -- context more, and for a frame, a line and an arc more of this thread.
-pub record State : Type 0 where
+pub record CtxState : Type 0 where
   pub callers : ℕ
   pub contexts : List Context
   pub tracks : List Track
@@ -42,32 +42,32 @@ pub record State : Type 0 where
 
 -- Threads
 
-abbrev pub is_of : ThreadNo → Track → Bool
-is_of thread t = thread.0 == t.thread.0
+abbrev pub is_track_of : ThreadNo → Track → Bool
+is_track_of thread t = thread.0 == t.thread.0
 
-abbrev pub knows : State → ThreadNo → Bool
-knows w thread = list_any (is_of thread) w.tracks
+abbrev pub knows : CtxState → ThreadNo → Bool
+knows w thread = list_any (is_track_of thread) w.tracks
 
-abbrev pub nobody : ThreadNo → Track
-nobody thread = record { thread = thread; stack = []; frames = []; total = no_cost; lines = []; arcs = [] }
+abbrev pub empty_track : ThreadNo → Track
+empty_track thread = record { thread = thread; stack = []; frames = []; total = no_cost; lines = []; arcs = [] }
 
 abbrev pub track_in : ThreadNo → List Track → Track
-track_in thread [] = nobody thread
-track_in thread (t ∷ ts) = if is_of thread t then t else track_in thread ts
+track_in thread [] = empty_track thread
+track_in thread (t ∷ ts) = if is_track_of thread t then t else track_in thread ts
 
-abbrev pub track : State → ThreadNo → Track
+abbrev pub track : CtxState → ThreadNo → Track
 track w thread = track_in thread w.tracks
 
 -- the threads with one of them put in its place
 abbrev pub with_track : Track → List Track → List Track
 with_track t [] = []
-with_track t (u ∷ us) = if is_of t.thread u then t ∷ us else u ∷ with_track t us
+with_track t (u ∷ us) = if is_track_of t.thread u then t ∷ us else u ∷ with_track t us
 
 -- A thread that begins
 
 -- a thread in this function alone, whose context has this number
-abbrev pub begun : ThreadNo → FuncId → FuncId → Track
-begun thread func first = record {
+abbrev pub first_track : ThreadNo → FuncId → FuncId → Track
+first_track thread func first = record {
   thread = thread;
   stack = record { func = func; kind = Root; arc = None } ∷ [];
   frames = record { func = first; from = None; kind = Root; start = no_cost } ∷ [];
@@ -76,14 +76,14 @@ begun thread func first = record {
   arcs = [];
 }
 
-abbrev pub with_started : SymbolMap → State → ThreadNo → ℕ → State
+abbrev pub with_started : SymbolMap → CtxState → ThreadNo → ℕ → CtxState
 with_started syms w thread pc =
     let c = context w.callers (root syms pc) in record w {
       contexts = with_context w.contexts c;
-      tracks = w.tracks ++ begun thread (place_of syms pc).func (number w.contexts c) ∷ [];
+      tracks = w.tracks ++ first_track thread (place_of syms pc).func (number w.contexts c) ∷ [];
     }
 
-abbrev pub after_ready : State → ThreadNo → ℕ → SymbolMap → State
+abbrev pub after_ready : CtxState → ThreadNo → ℕ → SymbolMap → CtxState
 after_ready w thread pc syms =
     record (if knows w thread then w else with_started syms w thread pc) { ready = Some thread }
 
@@ -105,7 +105,7 @@ contexts_with callers contexts (Some a) s = with_context contexts (context calle
 
 -- the contexts once a change is made
 abbrev pub contexts_after : ℕ → List Context → Change → List Context
-contexts_after callers contexts c = contexts_with callers contexts c.pushed c.kept
+contexts_after callers contexts c = contexts_with callers contexts c.pushed c.rest
 
 -- a frame that is entered from these frames at a place, by its context's number
 abbrev pub entered_frame : Place → List Frame → FuncId → Activation
@@ -115,51 +115,51 @@ entered_frame at frames callee =
 -- the frame that a change pushes, where these frames stay
 abbrev pub pushed_frame : ℕ → List Context → Place → List Frame → Change → Option Activation
 pushed_frame callers contexts at frames c =
-    option_map (λ a. entered_frame at frames (number contexts (context callers (a ∷ c.kept)))) c.pushed
+    option_map (λ a. entered_frame at frames (number contexts (context callers (a ∷ c.rest)))) c.pushed
 
 -- the frames that a change drops, and those that stay
-abbrev pub dropped : SymbolMap → Event → Track → List Frame
-dropped syms e t = take (gone syms e t.stack) t.frames
+abbrev pub dropped_track_frames : SymbolMap → Event → Track → List Frame
+dropped_track_frames syms e t = take (drop_count syms e t.stack) t.frames
 
-abbrev pub kept : SymbolMap → Event → Track → List Frame
-kept syms e t = drop (gone syms e t.stack) t.frames
+abbrev pub kept_track_frames : SymbolMap → Event → Track → List Frame
+kept_track_frames syms e t = drop (drop_count syms e t.stack) t.frames
 
-abbrev pub pushed : ℕ → List Context → SymbolMap → Event → Track → Option Activation
-pushed callers contexts syms e t =
-    pushed_frame callers contexts (place_of syms e.done.pc) (kept syms e t) (change syms e t.stack)
+abbrev pub pushed_track_frame : ℕ → List Context → SymbolMap → Event → Track → Option Activation
+pushed_track_frame callers contexts syms e t =
+    pushed_frame callers contexts (place_of syms e.done.pc) (kept_track_frames syms e t) (change syms e t.stack)
 
 -- A thread after an event: the event counts at the line of its pc in the context of the top frame; then each frame that
 -- goes gives its arc what it has cost since its start, and one that comes counts as a call.
-abbrev pub seen_on : ℕ → List Context → SymbolMap → Event → List ℕ → Track → Track
-seen_on callers contexts syms e cost t =
+abbrev pub track_after_event : ℕ → List Context → SymbolMap → Event → List ℕ → Track → Track
+track_after_event callers contexts syms e cost t =
     let at = place_of syms e.done.pc in
     let total = sum_of_costs t.total cost in
-    let new = pushed callers contexts syms e t in
+    let new = pushed_track_frame callers contexts syms e t in
     record {
       thread = t.thread;
       stack = after syms t.stack e;
-      frames = with_frame total new (kept syms e t);
+      frames = with_frame total new (kept_track_frames syms e t);
       total = total;
       lines = add_line t.lines (line (record { func = top_number t.frames; file = at.file; line = at.line }) cost);
-      arcs = add_arcs t.arcs (told_rows (closings total (dropped syms e t) ++ pushing new));
+      arcs = add_arcs t.arcs (rows_of_tellings (closings total (dropped_track_frames syms e t) ++ pushing new));
     }
 
-abbrev pub after_seen : State → Event → List ℕ → SymbolMap → State
+abbrev pub after_seen : CtxState → Event → List ℕ → SymbolMap → CtxState
 after_seen w e cost syms =
     let t = track w e.thread in
     record w {
       contexts = contexts_after w.callers w.contexts (change syms e t.stack);
-      tracks = with_track (seen_on w.callers w.contexts syms e cost t) w.tracks;
+      tracks = with_track (track_after_event w.callers w.contexts syms e cost t) w.tracks;
       ready = None;
     }
 
 -- A cut: the open frames have given their cost so far and start anew, and all rows count from 0.
-abbrev pub cut_off : Track → Track
-cut_off t = record t {
-  frames = restarted t.total t.frames;
+abbrev pub track_after_cut : Track → Track
+track_after_cut t = record t {
+  frames = restarted_frames t.total t.frames;
   lines = cleared_lines t.lines;
   arcs = cleared_arcs t.arcs;
 }
 
-abbrev pub after_part : State → ThreadNo → State
-after_part w thread = record w { tracks = with_track (cut_off (track w thread)) w.tracks }
+abbrev pub after_part : CtxState → ThreadNo → CtxState
+after_part w thread = record w { tracks = with_track (track_after_cut (track w thread)) w.tracks }

@@ -10,7 +10,7 @@ use Rattle.event_costs.specs.declared.numbers.FileId.{FileId}
 use Rattle.sym_map.specs.SymbolMap.{SymbolMap, place_of}
 use Rattle.shadow_stack.specs.Changes.{Change, change}
 use Rattle.shadow_stack.specs.Stacks.{Activation, Stack}
-use Rattle.shadow_stack.specs.Traces.{Seen}
+use Rattle.shadow_stack.specs.Traces.{EventOnStack}
 use Rattle.ctx_rows.specs.Contexts.{Context, context, context_order, same_context}
 
 -- a line in a context
@@ -53,7 +53,7 @@ is_arc arc from = option_map_or (same_arc arc) from false
 -- How many callers a context has at most is given.
 module _ (callers : ℕ) where
   -- where an event counts: in the context of its stack's top frame, at the file and line of its pc
-  abbrev pub counts_at : SymbolMap → Seen → CtxPlace
+  abbrev pub counts_at : SymbolMap → EventOnStack → CtxPlace
   counts_at syms x = record {
     ctx = context callers x.stack;
     file = (place_of syms x.event.done.pc).file;
@@ -85,18 +85,18 @@ module _ (callers : ℕ) where
 
   -- the arc of the frame that an event pushes
   abbrev pub pushed_arc : Change → Option CtxArcKey
-  pushed_arc c = ctx_arc_of c.pushed c.kept
+  pushed_arc c = ctx_arc_of c.pushed c.rest
 
   -- the cost of a kind at a line in a context: that of the events that count there
-  abbrev pub self_cost : SymbolMap → ℕ → CtxPlace → List Seen → ℕ
+  abbrev pub self_cost : SymbolMap → ℕ → CtxPlace → List EventOnStack → ℕ
   self_cost syms kind place xs =
       sum_by (λ x. if same_place place (counts_at syms x) then slice_index x.cost kind else 0) xs
 
   -- the cost of a kind under an arc: that of each event, times the frames of its stack that were entered by the arc
-  abbrev pub arc_cost : ℕ → CtxArcKey → List Seen → ℕ
+  abbrev pub arc_cost : ℕ → CtxArcKey → List EventOnStack → ℕ
   arc_cost kind arc xs = sum_by (λ x. slice_index x.cost kind * entered_by arc x.stack) xs
 
   -- the calls of an arc: the frames that the events push by it
-  abbrev pub arc_calls : SymbolMap → CtxArcKey → List Seen → ℕ
+  abbrev pub arc_calls : SymbolMap → CtxArcKey → List EventOnStack → ℕ
   arc_calls syms arc xs =
       sum_by (λ x. if is_arc arc (pushed_arc (change syms x.event x.stack)) then 1 else 0) xs

@@ -10,11 +10,11 @@ use Rattle.shadow_stack.specs.Frames.{closings}
 use Rattle.arc_costs.specs.Arcs.{arc_sum, call_sum}
 use Rattle.arc_costs.specs.Lines.{line_sum}
 use Rattle.arc_costs.specs.Rows.{ArcRow, LineRow}
-use Rattle.recorder.specs.Notes.{open_sum, told_rows}
+use Rattle.recorder.specs.Notes.{open_sum, rows_of_tellings}
 use Rattle.ctx_rows.specs.Contexts.{Context, context_at}
 use Rattle.ctx_rows.specs.Known.{AreKnown}
-use Rattle.ctx_rows.specs.Rows.{CtxListed, summed}
-use Rattle.ctx_rows.specs.States.{State, Track, knows, track}
+use Rattle.ctx_rows.specs.Rows.{CtxListed, summed_rows}
+use Rattle.ctx_rows.specs.States.{CtxState, Track, knows, track}
 use Rattle.ctx_rows.specs.declared.rows.CtxArc.{CtxArc}
 use Rattle.ctx_rows.specs.declared.rows.CtxLine.{CtxLine}
 
@@ -40,12 +40,12 @@ named_arc contexts row = record {
 -- The rows of a thread since its last cut: what was counted, and what its open frames have cost since then, summed up
 -- by line and by arc.
 abbrev pub rows_of_track : List Context → Track → CtxListed
-rows_of_track contexts t = summed (record {
+rows_of_track contexts t = summed_rows (record {
   lines = map (named_line contexts) t.lines;
-  arcs = map (named_arc contexts) (t.arcs ++ told_rows (closings t.total t.frames));
+  arcs = map (named_arc contexts) (t.arcs ++ rows_of_tellings (closings t.total t.frames));
 })
 
-unfoldable pub rows_in : State → ThreadNo → CtxListed
+unfoldable pub rows_in : CtxState → ThreadNo → CtxListed
 rows_in w thread = rows_of_track w.contexts (track w thread)
 
 -- An event of this cost can be counted: neither the total nor, with the costs of open frames counted in, a sum since
@@ -59,11 +59,11 @@ pub record CanCount (t : Track) (cost : List ℕ) : Type 0 where
   pub calls : (arc : ArcKey) → call_sum arc t.arcs + 1 < 2 ^ 64
 
 -- there is room for a step of the thread
-abbrev pub HasRoom : State → ThreadNo → Type 0
+abbrev pub HasRoom : CtxState → ThreadNo → Type 0
 HasRoom w thread = w.ready ≡ Some thread
 
 -- A step of a thread may be told: the thread was made ready and hasn't ended, and the step can be counted.
-pub record CanSee (w : State) (e : Event) (cost : List ℕ) : Type 0 where
+pub record CanSee (w : CtxState) (e : Event) (cost : List ℕ) : Type 0 where
   pub ready : HasRoom w e.thread
   pub knows : knows w e.thread ≡ true
   pub live : 0 < length (track w e.thread).stack
@@ -71,6 +71,6 @@ pub record CanSee (w : State) (e : Event) (cost : List ℕ) : Type 0 where
 
 -- A part may be written of a thread that is known, with a map that has all functions and files of its rows. Numbers
 -- past those of a map come from maps alone that aren't sound.
-pub record CanWrite (w : State) (thread : ThreadNo) (m : SymbolMap) : Type 0 where
+pub record CanWrite (w : CtxState) (thread : ThreadNo) (m : SymbolMap) : Type 0 where
   pub knows : knows w thread ≡ true
   pub rows : IsSound m → AreKnown m (rows_in w thread)

@@ -58,8 +58,8 @@ pub fn plain_rows(alloc: Global, rows: &CtxRows) -> Result<TableRows, OutOfMemor
     Ok(TableRows { lines, arcs })
 }
 
-/// Rows summed up by place and by arc. No sum passes 64 bits.
-pub fn summed(alloc: Global, rows: &TableRows) -> Result<TableRows, OutOfMemory>
+/// Rows summed_rows up by place and by arc. No sum passes 64 bits.
+pub fn summed_rows(alloc: Global, rows: &TableRows) -> Result<TableRows, OutOfMemory>
     requires lines { (event : ℕ) (place : PlaceValue) → line_sum event place rows.now.lines < 2 ^ 64 }
     requires arcs { (event : ℕ) (arc : ArcKeyValue) → arc_sum event arc rows.now.arcs < 2 ^ 64 }
     requires calls { (arc : ArcKeyValue) → call_sum arc rows.now.arcs < 2 ^ 64 }
@@ -78,5 +78,5 @@ pub fn fold(alloc: Global, rows: &CtxRows) -> Result<TableRows, OutOfMemory>
     ensures { IfOk result (AreSumsOf (plain rows.now.rows)) }
 {
     let all = plain_rows(alloc, rows)?;
-    summed(alloc, &all)
+    summed_rows(alloc, &all)
 }

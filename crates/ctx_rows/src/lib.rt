@@ -9,7 +9,7 @@ mod numbering;
 mod rows;
 mod writing;
 
-pub use folding::{fold, plain_rows, summed};
+pub use folding::{fold, plain_rows, summed_rows};
 pub use func_list::FuncList;
 pub use laws::{
     a_call_that_goes_on_may_be_made, events_stand_on_their_stacks,

@@ -49,7 +49,7 @@ module _ (p : Contents) (groups : Grouping) (profile : IsProfile p) (of_profile 
   group_over g k sum lt big le = record {
     sum = inclusive_cost (is_member groups g) p k;
     of_profile = of_group k (is_member groups g) lt (is_group of_profile (arcs_within p profile) g);
-    over = omega (arith, big, le);
+    too_large = omega (arith, big, le);
   }
 
   -- A self row is counted.
@@ -91,7 +91,7 @@ module _ (p : Contents) (groups : Grouping) (profile : IsProfile p) (of_profile 
         (λ k kt big. record {
           sum = total p k;
           of_profile = of_total k kt;
-          over = omega (arith, big, sum_by-take-le (λ (r : SelfRow). at r.cost k) p.self_rows (i + 1));
+          too_large = omega (arith, big, sum_by-take-le (λ (r : SelfRow). at r.cost k) p.self_rows (i + 1));
         }) in
         let number : ℕ = at groups.number row.func in
         group_added one (group_sum groups after []) adds number_within
@@ -216,7 +216,7 @@ module _ (p : Contents) (groups : Grouping) (profile : IsProfile p) (of_profile 
         (λ k kt big. record {
           sum = pair_cost caller callee p.call_rows k;
           of_profile = of_pair k caller callee kt;
-          over =
+          too_large =
               omega (
                 arith,
                 big,
@@ -229,7 +229,7 @@ module _ (p : Contents) (groups : Grouping) (profile : IsProfile p) (of_profile 
         (λ big. record {
           sum = pair_calls caller callee p.call_rows;
           of_profile = of_calls caller callee;
-          over =
+          too_large =
               omega (
                 arith,
                 big,

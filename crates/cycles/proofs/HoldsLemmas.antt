@@ -36,7 +36,7 @@ over_added : {limit less : ℕ} (sum more : ℕ → ℕ) (old cost new : List �
     → ((k : ℕ) → k < length old → more k ≡ sum k + at cost k)
     → IsExact limit sum old → less < limit → (less < length old) × (2 ^ 64 ≤ more less)
 over_added {less = less} sum more old cost new added is exact lt =
-    let fell = added.over lt in
+    let fell = added.too_large lt in
     (fell.0, omega (arith, fell.1, (exact less lt fell.0).0, is less fell.0))
 
 -- the lists of a table keep their lengths
@@ -142,11 +142,11 @@ module _ {p : Contents} {group_count pair_count : ℕ} {total : ℕ → ℕ} {gr
       record {
         shape = totals_shape holds.shape adds;
         last = omega (arith, adds.totals.less, holds.last);
-        over = over_now p (length p.events) old.limit new.limit adds.totals.less
+        too_large = over_now p (length p.events) old.limit new.limit adds.totals.less
             (λ lt. let fell =
             over_added total more old.totals.items cost new.totals.items adds.totals same holds.totals lt in
             big new.limit (subst (λ n. new.limit < n) holds.shape.totals fell.0) fell.1)
-            holds.over;
+            holds.too_large;
         totals = exact_added total more old.totals.items cost new.totals.items adds.totals same holds.totals;
         groups = λ g lt. subst (λ t. IsExact new.limit (group g) (list_at t g)) (sym adds.groups)
             (exact_less (group g) (list_at old.groups.items g) adds.totals.less (holds.groups g lt));
@@ -165,12 +165,12 @@ module _ {p : Contents} {group_count pair_count : ℕ} {total : ℕ → ℕ} {gr
   group_added {place = place} {cost = cost} more adds within here others big = record {
     shape = group_shape holds.shape adds within;
     last = omega (arith, adds.groups.here.less, holds.last);
-    over = over_now p (length p.events) old.limit new.limit adds.groups.here.less
+    too_large = over_now p (length p.events) old.limit new.limit adds.groups.here.less
         (λ lt.
         let fell =
         table_over group more old.groups.items cost new.groups.items adds.groups holds.shape.groups
         holds.shape.group_count within here others holds.groups lt in big new.limit fell.0 fell.1)
-        holds.over;
+        holds.too_large;
     totals =
         subst (IsExact new.limit total) (sym adds.totals)
         (exact_less total old.totals.items adds.groups.here.less holds.totals);
@@ -191,12 +191,12 @@ module _ {p : Contents} {group_count pair_count : ℕ} {total : ℕ → ℕ} {gr
   pair_added {place = place} {cost = cost} more adds within here others big = record {
     shape = pair_shape holds.shape adds within;
     last = omega (arith, adds.pairs.here.less, holds.last);
-    over = over_now p (length p.events) old.limit new.limit adds.pairs.here.less
+    too_large = over_now p (length p.events) old.limit new.limit adds.pairs.here.less
         (λ lt.
         let fell =
         table_over pair more old.pairs.items cost new.pairs.items adds.pairs holds.shape.pairs
         holds.shape.pair_count within here others holds.pairs lt in big new.limit fell.0 fell.1)
-        holds.over;
+        holds.too_large;
     totals =
         subst (IsExact new.limit total) (sym adds.totals)
         (exact_less total old.totals.items adds.pairs.here.less holds.totals);
@@ -215,12 +215,12 @@ module _ {p : Contents} {group_count pair_count : ℕ} {total : ℕ → ℕ} {gr
   calls_added {place = place} {calls = calls} more adds within here others big = record {
     shape = calls_shape holds.shape adds;
     last = omega (arith, adds.less, holds.last);
-    over = over_now p (length p.events) old.limit new.limit adds.less
-        (λ lt. let fell = adds.over lt in
+    too_large = over_now p (length p.events) old.limit new.limit adds.less
+        (λ lt. let fell = adds.too_large lt in
         let past : length p.events < old.limit = omega (arith, fell.0, holds.shape.totals) in
         subst (IsOver p) (sym (fell.0 ∙ holds.shape.totals))
         (big (omega (arith, fell.1, (holds.calls place within past).0, here))))
-        holds.over;
+        holds.too_large;
     totals =
         subst (IsExact new.limit total) (sym adds.totals) (exact_less total old.totals.items adds.less holds.totals);
     groups = λ g lt. subst (λ t. IsExact new.limit (group g) (list_at t g)) (sym adds.groups)
@@ -252,7 +252,7 @@ holds_by {total = total} {more_total = more_total} {group = group} {more_group =
     {more_pair = more_pair} {sums = sums} tot gro pai cal holds = record {
       shape = holds.shape;
       last = holds.last;
-      over = holds.over;
+      too_large = holds.too_large;
       totals =
           exact_by total more_total sums.totals.items
           (λ k lt. tot k (subst (λ n. k < n) holds.shape.totals lt)) holds.totals;

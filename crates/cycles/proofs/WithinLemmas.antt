@@ -87,7 +87,7 @@ pub zeros_count : (p : Contents) (groups : Grouping) (arcs : List CallArc) (sums
 zeros_count p groups arcs sums zeros = record {
   shape = zeros_shape zeros;
   last = omega (arith, zeros.limit);
-  over = λ le. absurd (omega (arith, zeros.limit));
+  too_large = λ le. absurd (omega (arith, zeros.limit));
   totals = zeros_exact (length p.events) (column_sum []) sums.totals.items zeros.totals (λ k. refl);
   groups =
       λ g lt. zeros_exact (length p.events) (group_sum groups [] [] g) (list_at sums.groups.items g)
@@ -260,7 +260,7 @@ module _ (p : Contents) (profile : IsProfile p) where
     below_limit q s (of_calls caller callee) lt = any_calls caller callee lt
 
     pub first_over : sums.limit ≤ length p.events → IsFirstOver p sums.limit
-    first_over le = record { over = counts.over le; first = λ q s lt is. below_limit q s is lt }
+    first_over le = record { too_large = counts.too_large le; first = λ q s lt is. below_limit q s is lt }
 
     pub all_within : length p.events < sums.limit → AreAllWithin p
     all_within past q s is = below_limit q s is (position is)

@@ -36,11 +36,11 @@ AreWithinBefore p position = (place sum : ℕ) → place < position → IsSum p 
 pub record IsOver (p : Contents) (position : ℕ) : Type 0 where
   pub sum : ℕ
   pub of_profile : IsSum p position sum
-  pub over : 2 ^ 64 ≤ sum
+  pub too_large : 2 ^ 64 ≤ sum
 
 -- the first position where one does
 pub record IsFirstOver (p : Contents) (position : ℕ) : Type 0 where
-  pub over : IsOver p position
+  pub too_large : IsOver p position
   pub first : AreWithinBefore p position
 
 -- no sum passes it

@@ -3,9 +3,9 @@
 ghost use Rattle.std.specs.Prelude.{◌≡◌, map, IfOk};
 ghost use Rattle.cycles.specs.Costs.{arc_of};
 
+use byte_text::OutOfMemory;
 use call_graph::CallArc;
 use cg_read::CallRow;
-use byte_text::OutOfMemory;
 use std::alloc::Global;
 
 /// From the caller of a row to its callee.

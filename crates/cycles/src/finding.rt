@@ -6,9 +6,9 @@ ghost use Rattle.call_graph.specs.Groups.{is_member};
 ghost use Rattle.call_graph.specs.Reach.{IsGroup, Steps};
 
 use crate::arcs::arcs_of_rows;
+use byte_text::OutOfMemory;
 use call_graph::{Groups, groups_of};
 use cg_read::Profile;
-use byte_text::OutOfMemory;
 use std::alloc::Global;
 
 /// The groups of a profile's functions over its call rows. A function is in one group with those that it reaches and

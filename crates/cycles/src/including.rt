@@ -10,9 +10,9 @@ ghost use Rattle.cycles.specs.inner.Pairs.{IsPairs};
 use crate::error::InclError;
 use crate::pairs::{Pairs, pairs_of};
 use crate::sums::Sums;
+use byte_text::OutOfMemory;
 use call_graph::Groups;
 use cg_read::{CallRow, CostList, Profile};
-use byte_text::OutOfMemory;
 use std::alloc::Global;
 
 /// Counts the self rows of a profile: for the totals, and for the function's group.

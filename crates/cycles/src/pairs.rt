@@ -4,9 +4,9 @@ ghost use Rattle.std.specs.Prelude.{◌≡◌, ◌<◌, ℕ, IfOk, OnOk, length}
 ghost use Rattle.cycles.specs.inner.Pairs.{AreFound, IsPairs, Keeps, arc_at};
 
 use crate::arcs::arc_of_row;
+use byte_text::OutOfMemory;
 use call_graph::CallArc;
 use cg_read::CallRow;
-use byte_text::OutOfMemory;
 use std::alloc::Global;
 use std::collections::BTreeMap;
 

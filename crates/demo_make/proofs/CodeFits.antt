@@ -6,11 +6,11 @@ use Rattle.std.proofs.lemmas.List.Elements.{All-append, All-from_recursion, All-
 use Rattle.rv_decode.specs.declared.instr.Instr.{Instr}
 use Rattle.rv_decode.specs.Encoded.{IsInRange}
 use Rattle.demo_make.specs.declared.draws.Choice.{Choice}
-use Rattle.demo_make.specs.Draws.{choice, drawn}
+use Rattle.demo_make.specs.Draws.{choice, random_below}
 use Rattle.demo_make.specs.Instructions.{x0, ra, sp, t1, t2, s0, s1, a0, a1, a2, a3, a4, a7, less, offset}
 use Rattle.demo_make.specs.Layout.{code_addr, child_addr, function_addr}
 use Rattle.demo_make.specs.Functions.{function, upper, loop, start, await, end, main, child}
-use Rattle.demo_make.specs.Program.{instructions, numbered, routines}
+use Rattle.demo_make.specs.Program.{instructions, numbered_routine, routines}
 use Rattle.demo_make.proofs.Fits.{addi-fits, lw-fits, jalr-fits, sw-fits, lui-fits}
 use Rattle.demo_make.proofs.Fits.{jal-fits, jal-near, beq-fits, bne-fits, blt-fits, ecall-fits}
 use Rattle.demo_make.proofs.Offsets.{within, even}
@@ -219,28 +219,28 @@ child-fits : (size : ℕ) → size ≤ 100000 → All IsInRange (child size)
 child-fits size most =
     both (loop child_addr size) (end 93) (loop-fits child_addr size (lit< tt) refl most) (end-fits 93 (lit< tt))
 
-drawn-below : (limit size i : ℕ) → 0 < limit → drawn limit size i < limit
-unfolding drawn
-drawn-below limit size i some = omega arith
+random_below-below : (limit size i : ℕ) → 0 < limit → random_below limit size i < limit
+unfolding random_below
+random_below-below limit size i some = omega arith
 
-numbered-fits : (size k : ℕ) → k < 32 → All IsInRange (function k (choice size k))
-numbered-fits size k lt =
-    let word = drawn-below 512 size (3 * k + 2) (lit< tt) in
-    let counter : 4 * drawn 512 size (3 * k + 2) < 2048 = omega arith in
-    function-fits k (choice size k) lt (drawn-below 32 size (3 * k) (lit< tt))
-    (drawn-below 32 size (3 * k + 1) (lit< tt))
+numbered_routine-fits : (size k : ℕ) → k < 32 → All IsInRange (function k (choice size k))
+numbered_routine-fits size k lt =
+    let word = random_below-below 512 size (3 * k + 2) (lit< tt) in
+    let counter : 4 * random_below 512 size (3 * k + 2) < 2048 = omega arith in
+    function-fits k (choice size k) lt (random_below-below 32 size (3 * k) (lit< tt))
+    (random_below-below 32 size (3 * k + 1) (lit< tt))
     counter
 
-drawn-fits : (size a n : ℕ) → a + n ≤ 32 → All IsInRange (instructions (map (numbered size) (range_with_len a n)))
-drawn-fits size a zero le = All-nil IsInRange
-drawn-fits size a (suc n) le =
-    both (function a (choice size a)) (instructions (map (numbered size) (range_with_len (a + 1) n)))
-    (numbered-fits size a (omega arith)) (drawn-fits size (a + 1) n (omega arith))
+random_below-fits : (size a n : ℕ) → a + n ≤ 32 → All IsInRange (instructions (map (numbered_routine size) (range_with_len a n)))
+random_below-fits size a zero le = All-nil IsInRange
+random_below-fits size a (suc n) le =
+    both (function a (choice size a)) (instructions (map (numbered_routine size) (range_with_len (a + 1) n)))
+    (numbered_routine-fits size a (omega arith)) (random_below-fits size (a + 1) n (omega arith))
 
 -- all of them
 pub code-fits : (size : ℕ) → size ≤ 100000 → All IsInRange (instructions (routines size))
 unfolding routines
 code-fits size most =
-    let others = instructions (map (numbered size) (range_with_len 0 32)) in
+    let others = instructions (map (numbered_routine size) (range_with_len 0 32)) in
     both (main size) (child size ++ others) (main-fits size most)
-    (both (child size) others (child-fits size most) (drawn-fits size 0 32 (lit≤ tt)))
+    (both (child size) others (child-fits size most) (random_below-fits size 0 32 (lit≤ tt)))

@@ -7,7 +7,7 @@ use Rattle.std.proofs.lemmas.List.FromFn.{length-range_with_len, length-map-rang
 use Rattle.rv_decode.specs.declared.instr.Instr.{Instr}
 use Rattle.demo_make.specs.Draws.{choice}
 use Rattle.demo_make.specs.Functions.{function, main, child}
-use Rattle.demo_make.specs.Program.{Routine, instructions, numbered, routines}
+use Rattle.demo_make.specs.Program.{Routine, instructions, numbered_routine, routines}
 use Rattle.demo_make.specs.inner.Lists.{Lists, routines_before}
 use Rattle.demo_make.specs.declared.listing.Listing.{Listing}
 use Rattle.demo_make.proofs.Behind.{length-parts}
@@ -21,10 +21,10 @@ length-each f w each (k ∷ ks) =
     let here = each k in
     omega (arith, length-append (f k) (flat_map f ks))
 
-pub length-numbered : (size n : ℕ)
-    → length (instructions (map (numbered size) (range_with_len 0 n))) ≡ 17 * n
-length-numbered size n =
-    let maps = flat_map-map (λ (r : Routine). r.code) (numbered size) (range_with_len 0 n) in
+pub length-numbered_routine : (size n : ℕ)
+    → length (instructions (map (numbered_routine size) (range_with_len 0 n))) ≡ 17 * n
+length-numbered_routine size n =
+    let maps = flat_map-map (λ (r : Routine). r.code) (numbered_routine size) (range_with_len 0 n) in
     let each = length-each (λ k. function k (choice size k)) 17 (λ k. refl) (range_with_len 0 n) in
     let count = length-range_with_len 0 n in
     let whole = ap length maps in
@@ -38,10 +38,10 @@ length-child size = refl
 
 pub length-first : (size n : ℕ) → length (instructions (routines_before size n)) ≡ 75 + 17 * n
 length-first size n =
-    let others = length-numbered size n in
+    let others = length-numbered_routine size n in
     let m = length-main size in
     let c = length-child size in
-    let tail = instructions (map (numbered size) (range_with_len 0 n)) in
+    let tail = instructions (map (numbered_routine size) (range_with_len 0 n)) in
     let inner = length-append (child size) tail in
     let outer = length-append (main size) (child size ++ tail) in
     omega arith
@@ -60,7 +60,7 @@ length-code l size n lists = ap length lists.code ∙ length-first size n
 
 pub length-functions : (l : Listing) (size n : ℕ) → Lists l (routines_before size n) → length l.functions.items ≡ 2 + n
 length-functions l size n lists =
-    let count = length-map-range_with_len (numbered size) 0 n in
+    let count = length-map-range_with_len (numbered_routine size) 0 n in
     let all = ap length lists.functions ∙ length-parts [] (routines_before size n) in
     omega arith
 

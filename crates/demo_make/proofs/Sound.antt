@@ -21,12 +21,12 @@ use Rattle.prog_make.proofs.Fit.{segments_sound}
 use Rattle.prog_make.proofs.SegmentsRead.{All-rest}
 use Rattle.std.proofs.lemmas.Grind.{flat_map-append}
 use Rattle.std.proofs.lemmas.Fmt.{decimal_by_steps, length-decimal-le_succ}
-use Rattle.rv_decode.specs.Encoded.{encoded}
+use Rattle.rv_decode.specs.Encoded.{encode}
 use Rattle.prog_make.specs.Code.{code_of}
 use Rattle.prog_make.specs.Encoding.{word_bytes}
 use Rattle.demo_make.proofs.Lengths.{length-all}
 use Rattle.demo_make.specs.Functions.{main, child}
-use Rattle.demo_make.specs.Program.{Routine, demo, instructions, numbered}
+use Rattle.demo_make.specs.Program.{Routine, demo, instructions, numbered_routine}
 use Rattle.demo_make.specs.Program.{part_behind, parts_behind, program_of, routines}
 
 lit-first : {X : Type 0} (xs : List X) → 0 < suc (length xs)
@@ -255,8 +255,8 @@ child-is size = record {
   some = lit< tt;
 }
 
-numbered-is : (size k : ℕ) → k < 32 → IsRoutine (numbered size k)
-numbered-is size k lt =
+numbered_routine-is : (size k : ℕ) → k < 32 → IsRoutine (numbered_routine size k)
+numbered_routine-is size k lt =
     let word : k < 2 ^ 64 = omega arith in
     let digits = length-decimal-le_succ k word in
     record {
@@ -270,19 +270,19 @@ numbered-is size k lt =
       some = lit< tt;
     }
 
-drawn-are : (size a n : ℕ) → a + n ≤ 32 → All IsRoutine (map (numbered size) (range_with_len a n))
-drawn-are size a zero le = All-nil IsRoutine
-drawn-are size a (suc n) le =
-    All-cons IsRoutine (numbered size a) (map (numbered size) (range_with_len (a + 1) n))
-    (numbered-is size a (omega arith)) (drawn-are size (a + 1) n (omega arith))
+random_below-are : (size a n : ℕ) → a + n ≤ 32 → All IsRoutine (map (numbered_routine size) (range_with_len a n))
+random_below-are size a zero le = All-nil IsRoutine
+random_below-are size a (suc n) le =
+    All-cons IsRoutine (numbered_routine size a) (map (numbered_routine size) (range_with_len (a + 1) n))
+    (numbered_routine-is size a (omega arith)) (random_below-are size (a + 1) n (omega arith))
 
 routines-are : (size : ℕ) → All IsRoutine (routines size)
 unfolding routines
 routines-are size =
-    let drawn = map (numbered size) (range_with_len 0 32) in
+    let random_below = map (numbered_routine size) (range_with_len 0 32) in
     let second : Routine = record { name = codes "child"; code = child size } in
-    All-cons IsRoutine (record { name = codes "main"; code = main size }) (second ∷ drawn) (main-is size)
-    (All-cons IsRoutine second drawn (child-is size) (drawn-are size 0 32 (lit≤ tt)))
+    All-cons IsRoutine (record { name = codes "main"; code = main size }) (second ∷ random_below) (main-is size)
+    (All-cons IsRoutine second random_below (child-is size) (random_below-are size 0 32 (lit≤ tt)))
 
 -- ---- the whole
 
@@ -291,8 +291,8 @@ unfolding code_of
 length-code_of [] = refl
 length-code_of (i ∷ instrs) =
     let rest = length-code_of instrs in
-    let here : length (word_bytes (encoded i)) ≡ 4 = refl in
-    let all = length-append (word_bytes (encoded i)) (code_of instrs) in
+    let here : length (word_bytes (encode i)) ≡ 4 = refl in
+    let all = length-append (word_bytes (encode i)) (code_of instrs) in
     omega arith
 
 -- the parts where the code has so many bytes in memory

@@ -3,7 +3,7 @@ use Rattle.std.proofs.Common.{◌≡◌, ℕ, zero, suc, ◌+◌, ◌%◌, refl,
 use Rattle.rand_pcg.specs.Lcg.{Lcg, advance, next, next_state, state_after}
 use Rattle.rand_pcg.specs.Pcg.{multiplier_64, pcg32, pcg32_of_seed}
 use Rattle.rand_core.specs.Pcg32Seed.{pcg32_seed}
-use Rattle.demo_make.specs.Draws.{drawn, generator}
+use Rattle.demo_make.specs.Draws.{random_below, generator}
 
 -- a step behind others
 state-last : (w m p n s : ℕ) → next_state w m p (state_after w m p n s) ≡ state_after w m p (suc n) s
@@ -26,6 +26,6 @@ generator-next size i = next-last 64 multiplier_64 i (pcg32_of_seed (pcg32_seed 
 pub after-next : (g : Lcg) (size i : ℕ) → g ≡ generator size i → (pcg32 g).1 ≡ generator size (i + 1)
 after-next g size i e = ap (λ (h : Lcg). (pcg32 h).1) e ∙ generator-next size i
 
-pub drawn-of : (g : Lcg) (limit size i : ℕ) → g ≡ generator size i → (pcg32 g).0 % limit ≡ drawn limit size i
-unfolding drawn
-drawn-of g limit size i e = ap (λ (h : Lcg). (pcg32 h).0 % limit) e
+pub random_below-of : (g : Lcg) (limit size i : ℕ) → g ≡ generator size i → (pcg32 g).0 % limit ≡ random_below limit size i
+unfolding random_below
+random_below-of g limit size i e = ap (λ (h : Lcg). (pcg32 h).0 % limit) e

@@ -11,14 +11,14 @@ unfoldable pub generator : ℕ → ℕ → Lcg
 generator size words = advance 64 multiplier_64 words (pcg32_of_seed (pcg32_seed 16 size))
 
 -- one of its words, counted from 0, modulo a limit
-unfoldable pub drawn : ℕ → ℕ → ℕ → ℕ
-drawn limit size i = (pcg32 (generator size i)).0 % limit
+unfoldable pub random_below : ℕ → ℕ → ℕ → ℕ
+random_below limit size i = (pcg32 (generator size i)).0 % limit
 
 -- Three words are drawn for each of the functions f0 to f31, in this order: the two functions that it calls, and the
 -- counter that it raises.
 abbrev pub choice : ℕ → ℕ → Choice
 choice size k = record {
-  first = drawn 32 size (3 * k);
-  second = drawn 32 size (3 * k + 1);
-  counter = 4 * drawn 512 size (3 * k + 2);
+  first = random_below 32 size (3 * k);
+  second = random_below 32 size (3 * k + 1);
+  counter = 4 * random_below 512 size (3 * k + 2);
 }

@@ -22,15 +22,15 @@ pub record Routine : Type 0 where
   pub code : List Instr
 
 -- one of f0 to f31
-abbrev pub numbered : ℕ → ℕ → Routine
-numbered size k = record { name = codes "f" ++ decimal k; code = function k (choice size k) }
+abbrev pub numbered_routine : ℕ → ℕ → Routine
+numbered_routine size k = record { name = codes "f" ++ decimal k; code = function k (choice size k) }
 
 -- all functions, in the order in which they stand
 unfoldable pub routines : ℕ → List Routine
 routines size =
     record { name = codes "main"; code = main size }
     ∷ record { name = codes "child"; code = child size }
-    ∷ map (numbered size) (range_with_len 0 32)
+    ∷ map (numbered_routine size) (range_with_len 0 32)
 
 -- the instructions of functions, one after another
 abbrev pub instructions : List Routine → List Instr

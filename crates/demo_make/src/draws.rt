@@ -1,7 +1,7 @@
 //! What is drawn for each function.
 
 ghost use Rattle.std.specs.Prelude.{◌≡◌, ℕ, ◌+◌, ◌*◌, ◌<◌};
-ghost use Rattle.demo_make.specs.Draws.{choice, drawn, generator};
+ghost use Rattle.demo_make.specs.Draws.{choice, random_below, generator};
 
 use rand_core::SeedableRng;
 use rand_core::utils::NextWord;
@@ -30,7 +30,7 @@ pub fn generator_of(size: u32) -> Lcg64Xsh32
 fn draw(words: &mut Lcg64Xsh32, limit: u32) -> u32
     requires { 0 < limit }
     ensures below { result < limit }
-    ensures drawn { (size i : ℕ) → words.old ≡ generator size i → result ≡ drawn limit size i }
+    ensures drawn { (size i : ℕ) → words.old ≡ generator size i → result ≡ random_below limit size i }
     ensures next { (size i : ℕ) → words.old ≡ generator size i → words.new ≡ generator size (i + 1) }
 {
     words.next_word() % limit

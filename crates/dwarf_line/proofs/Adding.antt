@@ -1,7 +1,7 @@
 -- A unit that was read in full is accepted and added.
 use Rattle.std.proofs.Common.{◌≡◌, ℕ, ◌+◌, List, ◌++◌, length, map, Option, Some, None, option_map, refl}
 use Rattle.std.proofs.lemmas.List.{length-map}
-use Rattle.dwarf_line.specs.declared.state.State.{State}
+use Rattle.dwarf_line.specs.declared.registers.Registers.{Registers}
 use Rattle.dwarf_line.specs.Entry.{TableEntry, StringSections}
 use Rattle.dwarf_line.specs.UnitContents.{UnitContents}
 use Rattle.dwarf_line.specs.Bytes.{◌>>=◌}
@@ -12,7 +12,7 @@ use Rattle.dwarf_line.specs.Unit.{unit_of, contents_of}
 use Rattle.dwarf_line.specs.inner.Building.{Building, Adds}
 
 grown_by : (contents : UnitContents) (old : Building) (matrix : OpenMatrix) (texts : List (List ℕ))
-    (sequences : Option (List (SequenceOf State)))
+    (sequences : Option (List (SequenceOf Registers)))
     → Grows (option_map (map (sequence_by (numbered_row (length old.files) (length contents.files)))) sequences)
     old.matrix matrix → texts ≡ old.files ++ map (file_text contents.directories) contents.files
     → Adds (sequences >>= λ sequences. Some

@@ -10,9 +10,9 @@ use Rattle.std.proofs.lemmas.Option.{slice_get-map}
 use Rattle.dwarf_line.specs.declared.row.Row.{Row}
 use Rattle.dwarf_line.specs.declared.row.Sequence.{Sequence}
 use Rattle.dwarf_line.specs.Program.{SequenceOf}
-use Rattle.dwarf_line.specs.LineTable.{row_address}
+use Rattle.dwarf_line.specs.Rows.{row_address}
 use Rattle.dwarf_line.specs.LineRow.{LineRow, line_address, begins_by, covers, last_at}
-use Rattle.dwarf_line.specs.LineTable.{with_text, sequence_in}
+use Rattle.dwarf_line.specs.Rows.{with_text, sequence_in}
 
 -- ---- the last row, one row further
 

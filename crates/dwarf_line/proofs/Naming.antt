@@ -10,9 +10,9 @@ use Rattle.std.proofs.lemmas.Option.{slice_get-map, slice_get-get_or}
 use Rattle.dwarf_line.specs.declared.row.Row.{Row}
 use Rattle.dwarf_line.specs.declared.row.Sequence.{Sequence}
 use Rattle.dwarf_line.specs.LineRow.{LineRow, line_address}
-use Rattle.dwarf_line.specs.LineTable.{IsPlaced, IsRising, row_address, sequence_in, with_text}
+use Rattle.dwarf_line.specs.Rows.{IsPlaced, IsRising, row_address, sequence_in, with_text}
 use Rattle.dwarf_line.specs.inner.Tables.{IsTable}
-use Rattle.dwarf_line.specs.inner.Files.{AreNumbered, IsNamed, files_by, renamed}
+use Rattle.dwarf_line.specs.inner.Files.{AreNumbered, IsNamed, files_by, renamed_row}
 use Rattle.dwarf_line.specs.inner.Matrix.{OpenMatrix}
 use Rattle.dwarf_line.proofs.LookUp.{cut-map}
 use Rattle.dwarf_line.proofs.Rising.{rises_by, rises_back}
@@ -39,10 +39,10 @@ part_next : {X : Type 0} (f : X → X) (i : ℕ) (xs : List X) (d : X) → i < l
 part_next f i xs d lt = let e : i + 1 ≡ suc i = omega arith in rw e (part_set f i xs d lt)
 
 pub rows_next : (numbers : List ℕ) (old rows : List Row) (i : ℕ) (d : Row) → i < length old
-    → rows ≡ part (renamed numbers) i old
-    → set rows i (renamed numbers (get_or rows i d)) ≡ part (renamed numbers) (i + 1) old
+    → rows ≡ part (renamed_row numbers) i old
+    → set rows i (renamed_row numbers (get_or rows i d)) ≡ part (renamed_row numbers) (i + 1) old
 rows_next numbers old rows i d lt is =
-    rw (is, part_at (renamed numbers) i old d lt) (part_next (renamed numbers) i old d lt)
+    rw (is, part_at (renamed_row numbers) i old d lt) (part_next (renamed_row numbers) i old d lt)
 
 all_at : {X : Type 0} (P : X → Type 0) (xs : List X) (i : ℕ) (d : X) → AllByRecursion P xs → i < length xs
     → P (get_or xs i d)
@@ -52,11 +52,11 @@ all_at P (x ∷ xs) (suc i) d all lt = all_at P xs i d all.1 (omega arith)
 
 -- ---- texts that are pushed
 
-kept : (numbers : List ℕ) (texts more : List (List ℕ)) → AllByRecursion (λ n. n < length texts) numbers
+files_by-append : (numbers : List ℕ) (texts more : List (List ℕ)) → AllByRecursion (λ n. n < length texts) numbers
     → files_by numbers (texts ++ more) ≡ files_by numbers texts
-kept [] texts more all = refl
-kept (n ∷ numbers) texts more all =
-    rw (get_or_append_left texts more [] n all.0, kept numbers texts more all.1) refl
+files_by-append [] texts more all = refl
+files_by-append (n ∷ numbers) texts more all =
+    rw (get_or_append_left texts more [] n all.0, files_by-append numbers texts more all.1) refl
 
 pub file_pushed : (numbers : List ℕ) (texts : List (List ℕ)) (text : List ℕ) (number : ℕ)
     → AllByRecursion (λ n. n < length texts) numbers → number ≡ length texts
@@ -64,7 +64,7 @@ pub file_pushed : (numbers : List ℕ) (texts : List (List ℕ)) (text : List �
 file_pushed numbers texts text number all is =
     rw (
       map_push (λ n. get_or (texts ++ text ∷ []) n []) numbers number,
-      kept numbers texts (text ∷ []) all,
+      files_by-append numbers texts (text ∷ []) all,
       get_or_push texts text [] number (sym is),
     ) refl
 
@@ -121,7 +121,7 @@ again_file {Z = Z} f g old texts files i a b d d' e some lt is here before same 
 
 row_named : (numbers : List ℕ) (texts : List (List ℕ)) (row : Row) → AllByRecursion (λ n. n < length texts) numbers
     → row.file < length (files_by numbers texts)
-    → with_text texts (renamed numbers row) ≡ with_text (files_by numbers texts) row
+    → with_text texts (renamed_row numbers row) ≡ with_text (files_by numbers texts) row
 row_named numbers texts row all lt =
     let within : row.file < length numbers =
     omega (arith, lt, length-map numbers (λ n. get_or texts n [])) in
@@ -137,7 +137,7 @@ row_named numbers texts row all lt =
 rows_named : (numbers : List ℕ) (texts : List (List ℕ)) (rows : List Row)
     → AllByRecursion (λ n. n < length texts) numbers
     → AllByRecursion (λ row. row.file < length (files_by numbers texts)) rows
-    → map (with_text texts) (map (renamed numbers) rows) ≡ map (with_text (files_by numbers texts)) rows
+    → map (with_text texts) (map (renamed_row numbers) rows) ≡ map (with_text (files_by numbers texts)) rows
 rows_named numbers texts [] all known = refl
 rows_named numbers texts (row ∷ rows) all known =
     rw (row_named numbers texts row all known.0, rows_named numbers texts rows all known.1) refl
@@ -145,7 +145,7 @@ rows_named numbers texts (row ∷ rows) all known =
 texts_known : (numbers : List ℕ) (texts : List (List ℕ)) (rows : List Row)
     → AllByRecursion (λ n. n < length texts) numbers
     → AllByRecursion (λ row. row.file < length (files_by numbers texts)) rows
-    → AllByRecursion (λ row. row.file < length texts) (map (renamed numbers) rows)
+    → AllByRecursion (λ row. row.file < length texts) (map (renamed_row numbers) rows)
 texts_known numbers texts [] all known = tt
 texts_known numbers texts (row ∷ rows) all known = (
   all_at (λ n. n < length texts) numbers row.file 0 all
@@ -156,13 +156,13 @@ texts_known numbers texts (row ∷ rows) all known = (
 pub is_named : (numbers : List ℕ) (texts : List (List ℕ)) (old new : OpenMatrix)
     → AreNumbered numbers texts
     → AllByRecursion (λ row. row.file < length (files_by numbers texts)) old.rows
-    → new ≡ record { rows = map (renamed numbers) old.rows; sequences = old.sequences; first = old.first }
+    → new ≡ record { rows = map (renamed_row numbers) old.rows; sequences = old.sequences; first = old.first }
     → IsNamed (files_by numbers texts) old new texts
 is_named numbers texts old new all known is = rw is (record {
   few = let len = length-map numbers (λ n. get_or texts n []) in omega (arith, all.few, len);
   sequences = refl;
-  seen = rows_named numbers texts old.rows all.known known;
-  known = texts_known numbers texts old.rows all.known known;
+  same = rows_named numbers texts old.rows all.in_range known;
+  files_known = texts_known numbers texts old.rows all.in_range known;
 })
 
 -- ---- the table of rows that name texts
@@ -199,13 +199,13 @@ named_table files texts old new table named =
     let len : length old.rows ≡ length new.rows =
     omega (
       arith,
-      ap length named.seen,
+      ap length named.same,
       length-map new.rows (with_text texts),
       length-map old.rows (with_text files),
     ) in
     rw named.sequences (record {
       sequences_placed = subst (λ n. AllByRecursion (IsPlaced n) old.sequences) len table.sequences_placed;
-      sequences_rise = all_rise files texts old.rows new.rows old.sequences named.seen table.sequences_rise;
-      files_known = named.known;
+      sequences_rise = all_rise files texts old.rows new.rows old.sequences named.same table.sequences_rise;
+      files_known = named.files_known;
       few_files = omega (arith, named.few, table.few_files);
     })

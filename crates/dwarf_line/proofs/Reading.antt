@@ -1,7 +1,7 @@
 -- A section, one unit after the other.
 use Rattle.std.proofs.Common.{◌≡◌, ℕ, zero, suc, ◌+◌, ◌<◌, ◌≤◌, List, ◌++◌, length, Some, None, refl, sym, subst, ◌^◌, ◌∙◌, arith}
 use Rattle.dwarf_line.specs.Entry.{StringSections}
-use Rattle.dwarf_line.specs.Unit.{Front, body, wide, front_at, bodies_of, units_within, units, accepted, line_sequences}
+use Rattle.dwarf_line.specs.Unit.{Front, body, wide, front_at, bodies_of, units_within, units, accepted_units, line_sequences}
 use Rattle.dwarf_line.specs.inner.Fronts.{unit_len}
 use Rattle.dwarf_line.specs.inner.Tables.{IsTable}
 use Rattle.dwarf_line.specs.inner.Building.{Building, nothing_read, with_units, lines_of}
@@ -71,7 +71,7 @@ no_more sections building (suc limit) bytes read = rw read refl
 pub record IsRead (sections : StringSections) (section : List ℕ) (building : Building) : Type 0 where
   pub table : IsTable building.matrix.rows building.matrix.sequences building.files
   pub lines : lines_of building ≡ line_sequences sections section
-  pub count : building.unit_count ≡ length (accepted sections section)
+  pub count : building.unit_count ≡ length (accepted_units sections section)
 
 pub is_read : (sections : StringSections) (section : List ℕ) (building : Building) (bytes : List ℕ)
     → ReadsOn sections section building bytes → front_at bytes ≡ None → IsRead sections section building

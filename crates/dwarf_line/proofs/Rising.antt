@@ -8,14 +8,14 @@ use Rattle.std.proofs.lemmas.List.{get_or-map, length-map}
 use Rattle.std.proofs.lemmas.List.Sorted.{IsNonDecreasingBy-push, IsNonDecreasingBy-short}
 use Rattle.std.proofs.lemmas.Bool.{leb-true}
 use Rattle.std.proofs.lemmas.Option.{slice_get-get_or}
-use Rattle.dwarf_line.specs.declared.state.State.{State}
+use Rattle.dwarf_line.specs.declared.registers.Registers.{Registers}
 use Rattle.dwarf_line.specs.Bytes.{◌>>=◌}
 use Rattle.dwarf_line.specs.Header.{LineHeader}
 use Rattle.dwarf_line.specs.Instruction.{instructions_within}
-use Rattle.dwarf_line.specs.State.{start}
-use Rattle.dwarf_line.specs.Program.{Event, emits, ends, SequenceOf, sequence_by, allows, closed, unfinished, gathered}
+use Rattle.dwarf_line.specs.Registers.{start}
+use Rattle.dwarf_line.specs.Program.{Event, emits, ends, SequenceOf, sequence_by, allows, closed_sequence, sequences_at_end, gather_sequences}
 use Rattle.dwarf_line.specs.Program.{events_of, program_sequences}
-use Rattle.dwarf_line.specs.LineTable.{IsRising}
+use Rattle.dwarf_line.specs.Rows.{IsRising}
 
 -- a sequence has rows, and they rise up to its end
 pub record IsWhole {R : Type 0} (address : R → ℕ) (sequence : SequenceOf R) : Type 0 where
@@ -50,7 +50,7 @@ end_follows address rows end rise may = λ k d lt.
     omega arith
 
 closed_whole : {R : Type 0} (address : R → ℕ) (rows : List R) (end : ℕ) → IsNonDecreasingBy address rows
-    → allows address rows end ≡ true → AllByRecursion (IsWhole address) (closed rows end)
+    → allows address rows end ≡ true → AllByRecursion (IsWhole address) (closed_sequence rows end)
 closed_whole address [] end rise may = tt
 closed_whole address (row ∷ rows) end rise may = (
   record {
@@ -63,7 +63,7 @@ closed_whole address (row ∷ rows) end rise may = (
 -- ---- what a program gathers
 
 unfinished_whole : {R : Type 0} (address : R → ℕ) (rows : List R) (sequences : List (SequenceOf R))
-    → unfinished rows ≡ Some sequences → AllByRecursion (IsWhole address) sequences
+    → sequences_at_end rows ≡ Some sequences → AllByRecursion (IsWhole address) sequences
 unfinished_whole {R} address [] sequences e =
     let P : List (SequenceOf R) → Type 0 = AllByRecursion (IsWhole address) in
     let same : [] ≡ sequences = cc in
@@ -80,33 +80,33 @@ passed true o y e = (refl, e)
 passed false o y e = absurd cc
 
 gathered_whole : {R : Type 0} (address : R → ℕ) (rows : List R) (events : List (Event R))
-    (sequences : List (SequenceOf R)) → IsNonDecreasingBy address rows → gathered address rows events ≡ Some sequences
+    (sequences : List (SequenceOf R)) → IsNonDecreasingBy address rows → gather_sequences address rows events ≡ Some sequences
     → AllByRecursion (IsWhole address) sequences
 gathered_whole address rows [] sequences rise e = unfinished_whole address rows sequences e
 gathered_whole address rows (emits row ∷ events) sequences rise e =
-    let step = passed (allows address rows (address row)) (gathered address (rows ++ row ∷ []) events) sequences e in
+    let step = passed (allows address rows (address row)) (gather_sequences address (rows ++ row ∷ []) events) sequences e in
     gathered_whole address (rows ++ row ∷ []) events sequences (row_follows address rows row rise step.0) step.1
 gathered_whole {R} address rows (ends end ∷ events) sequences rise e =
     let step = passed (allows address rows end)
-    (gathered address [] events >>= λ others. Some (closed rows end ++ others)) sequences e in
-    let one = bound (gathered address [] events) (λ others. Some (closed rows end ++ others)) sequences step.1 in
+    (gather_sequences address [] events >>= λ others. Some (closed_sequence rows end ++ others)) sequences e in
+    let one = bound (gather_sequences address [] events) (λ others. Some (closed_sequence rows end ++ others)) sequences step.1 in
     let later = gathered_whole address [] events one.0 (IsNonDecreasingBy-short address [] (omega arith)) one.1 in
-    let same : closed rows end ++ one.0 ≡ sequences = let e2 = one.2 in cc in
+    let same : closed_sequence rows end ++ one.0 ≡ sequences = let e2 = one.2 in cc in
     let P : List (SequenceOf R) → Type 0 = AllByRecursion (IsWhole address) in
-    subst P same (all_append (IsWhole address) (closed rows end) one.0
+    subst P same (all_append (IsWhole address) (closed_sequence rows end) one.0
     (closed_whole address rows end rise step.0) later)
 
-abbrev pub state_address : State → ℕ
+abbrev pub state_address : Registers → ℕ
 state_address state = state.address
 
-pub program_whole : (header : LineHeader) (program : List ℕ) (sequences : List (SequenceOf State))
+pub program_whole : (header : LineHeader) (program : List ℕ) (sequences : List (SequenceOf Registers))
     → program_sequences header program ≡ Some sequences → AllByRecursion (IsWhole state_address) sequences
 unfolding program_sequences
 program_whole header program sequences e =
     let a = bound (instructions_within header (length program) program)
-    (λ instructions. events_of header start instructions >>= λ events. gathered (λ state. state.address) [] events)
+    (λ instructions. events_of header start instructions >>= λ events. gather_sequences (λ state. state.address) [] events)
     sequences e in
-    let b = bound (events_of header start a.0) (λ events. gathered (λ state. state.address) [] events) sequences a.2 in
+    let b = bound (events_of header start a.0) (λ events. gather_sequences (λ state. state.address) [] events) sequences a.2 in
     gathered_whole state_address [] b.0 sequences (IsNonDecreasingBy-short state_address [] (omega arith)) b.2
 
 -- ---- rows that are seen otherwise

@@ -7,20 +7,20 @@ use Rattle.std.proofs.lemmas.Bool.{le-ltb, lt-ltb}
 use Rattle.std.proofs.Math.Seq.{take-length}
 use Rattle.dwarf_line.specs.declared.row.Row.{Row}
 use Rattle.dwarf_line.specs.declared.row.Sequence.{Sequence}
-use Rattle.dwarf_line.specs.declared.state.State.{State}
-use Rattle.dwarf_line.specs.declared.state.Outcome.{Outcome}
-use Rattle.dwarf_line.specs.declared.state.Outcome.TheVariants as outcome
+use Rattle.dwarf_line.specs.declared.registers.Registers.{Registers}
+use Rattle.dwarf_line.specs.declared.registers.Outcome.{Outcome}
+use Rattle.dwarf_line.specs.declared.registers.Outcome.TheVariants as outcome
 use Rattle.dwarf_line.specs.declared.instruction.Instruction.{Instruction}
 use Rattle.dwarf_line.specs.Bytes.{◌>>=◌}
 use Rattle.dwarf_line.specs.Header.{LineHeader}
 use Rattle.dwarf_line.specs.Instruction.{instruction_at, instructions_within}
-use Rattle.dwarf_line.specs.State.{start, outcome_of}
-use Rattle.dwarf_line.specs.Program.{Event, SequenceOf, sequence_by, state_after, events_of, closed, unfinished}
-use Rattle.dwarf_line.specs.Program.{gathered, program_sequences}
+use Rattle.dwarf_line.specs.Registers.{start, outcome_of}
+use Rattle.dwarf_line.specs.Program.{Event, SequenceOf, sequence_by, registers_after, events_of, closed_sequence, sequences_at_end}
+use Rattle.dwarf_line.specs.Program.{gather_sequences, program_sequences}
 use Rattle.dwarf_line.specs.inner.Matrix.{OpenMatrix, numbered_row, open_rows, with_row, with_end, ended_sequences}
 use Rattle.dwarf_line.specs.inner.Matrix.{rows_of, with_sequences, Grows, Keeps, Takes, Refuses}
-use Rattle.dwarf_line.specs.LineTable.{row_address}
-use Rattle.dwarf_line.proofs.Gather.{event_by, gathered-map}
+use Rattle.dwarf_line.specs.Rows.{row_address}
+use Rattle.dwarf_line.proofs.Gather.{event_by, gather_sequences-map}
 use Rattle.dwarf_line.proofs.Steps.{remaining, following, remaining-step, remaining-unread, remaining-out}
 use Rattle.dwarf_line.proofs.Steps.{row_instructions, end_instructions, following-refused}
 
@@ -41,7 +41,7 @@ closing : (front rows : List Row) (kept : List Sequence) (end : ℕ) (others : L
     → with_sequences (front ++ rows)
     (kept ++ cond (ltb (length front) (length (front ++ rows)))
     (place_of (length front) (length (front ++ rows)) end ∷ []) []) others
-    ≡ with_sequences front kept (closed rows end ++ others)
+    ≡ with_sequences front kept (closed_sequence rows end ++ others)
 closing front [] kept end others =
     rw (append-nil front, le-ltb (length front) (length front) (omega arith), append-nil kept) refl
 closing front (r ∷ rows) kept end others =
@@ -53,7 +53,7 @@ closing front (r ∷ rows) kept end others =
 closing_at : (all front rows : List Row) (first : ℕ) (kept : List Sequence) (end : ℕ) (others : List (SequenceOf Row))
     → all ≡ front ++ rows → first ≡ length front
     → with_sequences all (kept ++ cond (ltb first (length all)) (place_of first (length all) end ∷ []) []) others
-    ≡ with_sequences front kept (closed rows end ++ others)
+    ≡ with_sequences front kept (closed_sequence rows end ++ others)
 closing_at all front rows first kept end others e f = rw (e, f) (closing front rows kept end others)
 
 -- ---- what holds between two instructions
@@ -69,7 +69,7 @@ now_with matrix rest = option_map (with_sequences (take matrix.first matrix.rows
 
 -- So far the program has only grown the matrix, and what is still to come leads to the whole.
 pub record Continues (before count : ℕ) (header : LineHeader) (program : List ℕ) (old matrix : OpenMatrix)
-    (state : State) (bytes : List ℕ) : Type 0 where
+    (state : Registers) (bytes : List ℕ) : Type 0 where
   pub limit : ℕ
   pub enough : length bytes ≤ limit
   pub joined : now_with matrix (remaining row_address (numbered_row before count) header limit state
@@ -78,20 +78,20 @@ pub record Continues (before count : ℕ) (header : LineHeader) (program : List 
   pub old_place : length old.rows ≤ matrix.first
   pub keeps : Keeps old matrix
 
-seen_all : (before count : ℕ) (header : LineHeader) (events : Option (List (Event State)))
-    → (events >>= λ events. gathered row_address [] (map (event_by (numbered_row before count)) events))
+seen_all : (before count : ℕ) (header : LineHeader) (events : Option (List (Event Registers)))
+    → (events >>= λ events. gather_sequences row_address [] (map (event_by (numbered_row before count)) events))
     ≡ option_map (map (sequence_by (numbered_row before count)))
-    (events >>= λ events. gathered (λ state. state.address) [] events)
+    (events >>= λ events. gather_sequences (λ state. state.address) [] events)
 seen_all before count header None = refl
 seen_all before count header (Some events) =
-    gathered-map (λ (state : State). state.address) row_address (numbered_row before count) (λ state. refl) [] events
+    gather_sequences-map (λ (state : Registers). state.address) row_address (numbered_row before count) (λ state. refl) [] events
 
 seen_instructions : (before count : ℕ) (header : LineHeader) (instructions : Option (List Instruction))
     → (instructions >>= λ instructions. events_of header start instructions >>=
-    λ events. gathered row_address [] (map (event_by (numbered_row before count)) events))
+    λ events. gather_sequences row_address [] (map (event_by (numbered_row before count)) events))
     ≡ option_map (map (sequence_by (numbered_row before count)))
     (instructions >>= λ instructions. events_of header start instructions >>=
-    λ events. gathered (λ state. state.address) [] events)
+    λ events. gather_sequences (λ state. state.address) [] events)
 seen_instructions before count header None = refl
 seen_instructions before count header (Some instructions) =
     seen_all before count header (events_of header start instructions)
@@ -129,7 +129,7 @@ row_opened matrix row place = drop-append-le matrix.first matrix.rows (row ∷ [
 
 end_joined : (matrix : OpenMatrix) (end : ℕ) (rest : Option (List (SequenceOf Row))) → matrix.first ≤ length matrix.rows
     → now_with (with_end matrix end) rest
-    ≡ now_with matrix (rest >>= λ others. Some (closed (open_rows matrix) end ++ others))
+    ≡ now_with matrix (rest >>= λ others. Some (closed_sequence (open_rows matrix) end ++ others))
 end_joined matrix end None place = refl
 end_joined matrix end (Some others) place =
     let parts : matrix.rows ≡ take matrix.first matrix.rows ++ drop matrix.first matrix.rows =
@@ -142,7 +142,7 @@ end_joined matrix end (Some others) place =
 
 goes : (before count : ℕ) (header : LineHeader) (limit : ℕ) (outcome : Outcome) (matrix next : OpenMatrix)
     (bytes : List ℕ) → matrix.first ≤ length matrix.rows → Takes before count outcome matrix next
-    → now_with next (remaining row_address (numbered_row before count) header limit (state_after outcome)
+    → now_with next (remaining row_address (numbered_row before count) header limit (registers_after outcome)
     (open_rows next) bytes) ≡ now_with matrix
     (following row_address (numbered_row before count) header limit outcome (open_rows matrix) bytes)
 goes before count header limit (outcome.Goes state) matrix next bytes place takes = rw takes refl
@@ -189,13 +189,13 @@ taken_keeps before count (outcome.End end) old matrix next keeps takes =
           take-append-le (length old.sequences) matrix.sequences (ended_sequences matrix end) longer ∙ keeps.sequences;
     })
 
-one_joined : (before count : ℕ) (header : LineHeader) (limit : ℕ) (state : State) (matrix next : OpenMatrix)
+one_joined : (before count : ℕ) (header : LineHeader) (limit : ℕ) (state : Registers) (matrix next : OpenMatrix)
     (bytes : List ℕ) (instruction : Instruction) (after : List ℕ) (outcome : Outcome)
     → length bytes ≤ limit → 0 < length bytes → length after < length bytes → matrix.first ≤ length matrix.rows
     → instruction_at header bytes ≡ Some (instruction, after) → outcome_of header state instruction ≡ Some outcome
     → Takes before count outcome matrix next
     → (less : ℕ) × (length after ≤ less)
-    × (now_with next (remaining row_address (numbered_row before count) header less (state_after outcome)
+    × (now_with next (remaining row_address (numbered_row before count) header less (registers_after outcome)
     (open_rows next) after) ≡ now_with matrix
     (remaining row_address (numbered_row before count) header limit state (open_rows matrix) bytes))
 one_joined before count header limit state matrix next [] instruction after outcome enough some shorter place read is
@@ -212,12 +212,12 @@ one_joined before count header (suc limit) state matrix next
     )
 
 -- an instruction that the matrix takes
-pub goes_on : (before count : ℕ) (header : LineHeader) (program : List ℕ) (old matrix next : OpenMatrix) (state : State)
+pub goes_on : (before count : ℕ) (header : LineHeader) (program : List ℕ) (old matrix next : OpenMatrix) (state : Registers)
     (bytes : List ℕ) (instruction : Instruction) (after : List ℕ) (outcome : Outcome)
     → Continues before count header program old matrix state bytes → 0 < length bytes → length after < length bytes
     → instruction_at header bytes ≡ Some (instruction, after) → outcome_of header state instruction ≡ Some outcome
     → Takes before count outcome matrix next
-    → Continues before count header program old next (state_after outcome) after
+    → Continues before count header program old next (registers_after outcome) after
 goes_on before count header program old matrix next state bytes instruction after outcome so_far some shorter read is
     takes =
     let one = one_joined before count header so_far.limit state matrix next bytes instruction after outcome
@@ -238,7 +238,7 @@ nothing : {A B C : Type 0} (f : B → C) (g : A → B) (o : Option A) → option
 nothing f g None e = refl
 nothing f g (Some x) e = absurd cc
 
-damaged : (before count : ℕ) (header : LineHeader) (program : List ℕ) (old matrix : OpenMatrix) (state : State)
+damaged : (before count : ℕ) (header : LineHeader) (program : List ℕ) (old matrix : OpenMatrix) (state : Registers)
     (bytes : List ℕ) (so_far : Continues before count header program old matrix state bytes)
     → remaining row_address (numbered_row before count) header so_far.limit state (open_rows matrix) bytes ≡ None
     → program_sequences header program ≡ None
@@ -246,7 +246,7 @@ damaged before count header program old matrix state bytes so_far none =
     nothing (with_sequences old.rows old.sequences) (map (sequence_by (numbered_row before count)))
     (program_sequences header program) (sym so_far.joined ∙ ap (now_with matrix) none)
 
-unread : (before count : ℕ) (header : LineHeader) (limit : ℕ) (state : State) (rows : List Row) (bytes : List ℕ)
+unread : (before count : ℕ) (header : LineHeader) (limit : ℕ) (state : Registers) (rows : List Row) (bytes : List ℕ)
     → length bytes ≤ limit → 0 < length bytes → instruction_at header bytes ≡ None
     → remaining row_address (numbered_row before count) header limit state rows bytes ≡ None
 unread before count header limit state rows [] enough some read = absurd (omega arith)
@@ -254,7 +254,7 @@ unread before count header zero state rows (byte ∷ bytes) enough some read = a
 unread before count header (suc limit) state rows (byte ∷ bytes) enough some read =
     remaining-unread row_address (numbered_row before count) header limit state rows byte bytes read
 
-out_of_range : (before count : ℕ) (header : LineHeader) (limit : ℕ) (state : State) (rows : List Row) (bytes : List ℕ)
+out_of_range : (before count : ℕ) (header : LineHeader) (limit : ℕ) (state : Registers) (rows : List Row) (bytes : List ℕ)
     (instruction : Instruction) (after : List ℕ) → length bytes ≤ limit → 0 < length bytes
     → instruction_at header bytes ≡ Some (instruction, after) → outcome_of header state instruction ≡ None
     → remaining row_address (numbered_row before count) header limit state rows bytes ≡ None
@@ -264,7 +264,7 @@ out_of_range before count header zero state rows (byte ∷ bytes) instruction af
 out_of_range before count header (suc limit) state rows (byte ∷ bytes) instruction after enough some read is =
     remaining-out row_address (numbered_row before count) header limit state rows byte bytes instruction after read is
 
-refused : (before count : ℕ) (header : LineHeader) (limit : ℕ) (state : State) (matrix : OpenMatrix) (bytes : List ℕ)
+refused : (before count : ℕ) (header : LineHeader) (limit : ℕ) (state : Registers) (matrix : OpenMatrix) (bytes : List ℕ)
     (instruction : Instruction) (after : List ℕ) (outcome : Outcome) → length bytes ≤ limit → 0 < length bytes
     → instruction_at header bytes ≡ Some (instruction, after) → outcome_of header state instruction ≡ Some outcome
     → Refuses outcome matrix
@@ -279,14 +279,14 @@ refused before count header (suc limit) state matrix (byte ∷ bytes) instructio
     ∙ following-refused before count header limit outcome matrix after not
 
 pub unread_is_damage : (before count : ℕ) (header : LineHeader) (program : List ℕ) (old matrix : OpenMatrix)
-    (state : State) (bytes : List ℕ) → Continues before count header program old matrix state bytes → 0 < length bytes
+    (state : Registers) (bytes : List ℕ) → Continues before count header program old matrix state bytes → 0 < length bytes
     → instruction_at header bytes ≡ None → program_sequences header program ≡ None
 unread_is_damage before count header program old matrix state bytes so_far some read =
     damaged before count header program old matrix state bytes so_far
     (unread before count header so_far.limit state (open_rows matrix) bytes so_far.enough some read)
 
 pub out_is_damage : (before count : ℕ) (header : LineHeader) (program : List ℕ) (old matrix : OpenMatrix)
-    (state : State) (bytes : List ℕ) (instruction : Instruction) (after : List ℕ)
+    (state : Registers) (bytes : List ℕ) (instruction : Instruction) (after : List ℕ)
     → Continues before count header program old matrix state bytes → 0 < length bytes
     → instruction_at header bytes ≡ Some (instruction, after) → outcome_of header state instruction ≡ None
     → program_sequences header program ≡ None
@@ -296,7 +296,7 @@ out_is_damage before count header program old matrix state bytes instruction aft
     (open_rows matrix) bytes instruction after so_far.enough some read is)
 
 pub refused_is_damage : (before count : ℕ) (header : LineHeader) (program : List ℕ) (old matrix : OpenMatrix)
-    (state : State) (bytes : List ℕ) (instruction : Instruction) (after : List ℕ) (outcome : Outcome)
+    (state : Registers) (bytes : List ℕ) (instruction : Instruction) (after : List ℕ) (outcome : Outcome)
     → Continues before count header program old matrix state bytes → 0 < length bytes
     → instruction_at header bytes ≡ Some (instruction, after) → outcome_of header state instruction ≡ Some outcome
     → Refuses outcome matrix → program_sequences header program ≡ None
@@ -307,9 +307,9 @@ refused_is_damage before count header program old matrix state bytes instruction
 
 -- ---- the end of the program
 
-at_end : (before count : ℕ) (header : LineHeader) (limit : ℕ) (state : State) (rows : List Row) (bytes : List ℕ)
+at_end : (before count : ℕ) (header : LineHeader) (limit : ℕ) (state : Registers) (rows : List Row) (bytes : List ℕ)
     → length bytes ≡ 0 → remaining row_address (numbered_row before count) header limit state rows bytes
-    ≡ unfinished rows
+    ≡ sequences_at_end rows
 at_end before count header zero state rows [] none = refl
 at_end before count header (suc limit) state rows [] none = refl
 at_end before count header limit state rows (byte ∷ bytes) none = absurd (omega arith)
@@ -319,7 +319,7 @@ grown : (old matrix : OpenMatrix) (sequences : Option (List (SequenceOf Row)))
 grown old matrix None e = absurd cc
 grown old matrix (Some sequences) e = cc
 
-pub is_grown : (before count : ℕ) (header : LineHeader) (program : List ℕ) (old matrix : OpenMatrix) (state : State)
+pub is_grown : (before count : ℕ) (header : LineHeader) (program : List ℕ) (old matrix : OpenMatrix) (state : Registers)
     (bytes : List ℕ) → Continues before count header program old matrix state bytes → length bytes ≡ 0
     → matrix.first ≡ length matrix.rows → Grows (whole before count header program) old matrix
 is_grown before count header program old matrix state bytes so_far none all =
@@ -327,18 +327,18 @@ is_grown before count header program old matrix state bytes so_far none all =
     let opened : open_rows matrix ≡ [] = drop_all matrix.first matrix.rows (omega arith) in
     let rest : remaining row_address (numbered_row before count) header so_far.limit state (open_rows matrix) bytes
     ≡ Some [] = at_end before count header so_far.limit state (open_rows matrix) bytes none
-    ∙ ap unfinished opened in
+    ∙ ap sequences_at_end opened in
     let same : matrix ≡ with_sequences (take matrix.first matrix.rows) matrix.sequences [] =
     rw (rows, append-nil matrix.rows, append-nil matrix.sequences, ← all) refl in
     grown old matrix (whole before count header program)
     (ap (λ (m : OpenMatrix). Some m) same ∙ ap (now_with matrix) (sym rest) ∙ so_far.joined)
 
-still_open : (rows : List Row) → 0 < length rows → unfinished rows ≡ None
+still_open : (rows : List Row) → 0 < length rows → sequences_at_end rows ≡ None
 still_open [] some = absurd (omega arith)
 still_open (r ∷ rows) some = refl
 
 pub open_is_damage : (before count : ℕ) (header : LineHeader) (program : List ℕ) (old matrix : OpenMatrix)
-    (state : State) (bytes : List ℕ) → Continues before count header program old matrix state bytes → length bytes ≡ 0
+    (state : Registers) (bytes : List ℕ) → Continues before count header program old matrix state bytes → length bytes ≡ 0
     → (matrix.first ≡ length matrix.rows → ⊥) → program_sequences header program ≡ None
 open_is_damage before count header program old matrix state bytes so_far none not =
     damaged before count header program old matrix state bytes so_far

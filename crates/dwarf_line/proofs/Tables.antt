@@ -11,7 +11,7 @@ use Rattle.std.proofs.lemmas.Bool.{ltb-true, ltb-false}
 use Rattle.std.proofs.lemmas.Option.{slice_get_past}
 use Rattle.dwarf_line.specs.declared.row.Row.{Row}
 use Rattle.dwarf_line.specs.declared.row.Sequence.{Sequence}
-use Rattle.dwarf_line.specs.declared.state.State.{State}
+use Rattle.dwarf_line.specs.declared.registers.Registers.{Registers}
 use Rattle.dwarf_line.specs.Bytes.{◌>>=◌}
 use Rattle.dwarf_line.specs.Entry.{StringSections}
 use Rattle.dwarf_line.specs.Program.{SequenceOf, sequence_by, program_sequences}
@@ -19,7 +19,7 @@ use Rattle.dwarf_line.specs.inner.Matrix.{numbered_row, rows_of, places_of}
 use Rattle.dwarf_line.specs.FileText.{unknown, file_text}
 use Rattle.dwarf_line.specs.Unit.{LineUnit, unit_of, contents_of, line_row, unit_sequences}
 use Rattle.dwarf_line.specs.LineRow.{LineRow}
-use Rattle.dwarf_line.specs.LineTable.{with_text, row_address, sequence_in, IsPlaced, IsRising}
+use Rattle.dwarf_line.specs.Rows.{with_text, row_address, sequence_in, IsPlaced, IsRising}
 use Rattle.dwarf_line.specs.inner.Building.{Building, nothing_read, with_accepted, with_unit, with_units, lines_of}
 use Rattle.dwarf_line.proofs.Rising.{IsWhole, state_address, all_append, bound, program_whole, all_whole_by}
 
@@ -40,7 +40,7 @@ unit_whole sections body unit e =
     a.2 in
     let whole = program_whole a.0.constants a.0.program b.0 b.1 in
     let same : b.0 ≡ unit.sequences = let e2 = b.2 in cc in
-    let P : List (SequenceOf State) → Type 0 = AllByRecursion (IsWhole state_address) in
+    let P : List (SequenceOf Registers) → Type 0 = AllByRecursion (IsWhole state_address) in
     subst P same whole
 
 -- ---- rows behind others are cut out again
@@ -137,7 +137,7 @@ texts_kept : (files more : List (List ℕ)) (rows : List Row) → AllByRecursion
 texts_kept files more [] all = refl
 texts_kept files more (r ∷ rows) all = rw (within_front files more r.file all.0, texts_kept files more rows all.1) refl
 
-new_text : (files more : List (List ℕ)) (state : State) (has : Bool) → ltb state.file (length more) ≡ has
+new_text : (files more : List (List ℕ)) (state : Registers) (has : Bool) → ltb state.file (length more) ≡ has
     → slice_get files 0 ≡ Some unknown → 0 < length files
     → unwrap_or (slice_get (files ++ more) (cond has (length files + state.file) 0)) unknown
     ≡ unwrap_or (slice_get more state.file) unknown
@@ -145,7 +145,7 @@ new_text files more state true is first some = rw (within_back files more state.
 new_text files more state false is first some =
     rw (within_front files more 0 some, first, slice_get_past more state.file (ltb-false _ _ is)) refl
 
-texts_new : (files more : List (List ℕ)) (states : List State) → slice_get files 0 ≡ Some unknown → 0 < length files
+texts_new : (files more : List (List ℕ)) (states : List Registers) → slice_get files 0 ≡ Some unknown → 0 < length files
     → map (with_text (files ++ more)) (map (numbered_row (length files) (length more)) states)
     ≡ map (line_row more) states
 texts_new files more [] first some = refl
@@ -181,7 +181,7 @@ number_known : (before count file : ℕ) (has : Bool) → ltb file count ≡ has
 number_known before count file true is some = omega (arith, ltb-true file count is)
 number_known before count file false is some = omega arith
 
-numbers_known : (before count : ℕ) (states : List State) → 0 < before
+numbers_known : (before count : ℕ) (states : List Registers) → 0 < before
     → AllByRecursion (λ row. row.file < before + count) (map (numbered_row before count) states)
 numbers_known before count [] some = tt
 numbers_known before count (s ∷ states) some =

@@ -13,8 +13,8 @@ abbrev pub is_absolute : List ℕ → Bool
 is_absolute [] = false
 is_absolute (byte ∷ bytes) = byte == 0x2f
 
-abbrev pub joined : List ℕ → List ℕ → List ℕ
-joined directory path = directory ++ 0x2f ∷ path
+abbrev pub join_paths : List ℕ → List ℕ → List ℕ
+join_paths directory path = directory ++ 0x2f ∷ path
 
 -- the path of directory 0
 abbrev pub root_path : List TableEntry → List ℕ
@@ -23,7 +23,7 @@ root_path directories = option_map_or (λ entry. entry.path) (slice_get director
 -- A directory's text: but for directory 0, a relative one stands in directory 0.
 abbrev pub directory_path : List TableEntry → ℕ → List ℕ → List ℕ
 directory_path directories index path =
-    if index == 0 || is_absolute path then path else joined (root_path directories) path
+    if index == 0 || is_absolute path then path else join_paths (root_path directories) path
 
 -- the text of a number's directory, which is empty where the number has none
 abbrev pub directory_text : List TableEntry → ℕ → List ℕ
@@ -33,7 +33,7 @@ directory_text directories index =
 -- a path in a directory, alone where the directory's text is empty
 abbrev pub inside : List ℕ → List ℕ → List ℕ
 inside [] path = path
-inside (byte ∷ bytes) path = joined (byte ∷ bytes) path
+inside (byte ∷ bytes) path = join_paths (byte ∷ bytes) path
 
 abbrev pub file_text : List TableEntry → TableEntry → List ℕ
 file_text directories file = if is_absolute file.path then file.path else inside

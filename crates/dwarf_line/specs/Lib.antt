@@ -6,10 +6,10 @@ pub mod Header
 pub mod Instruction
 pub mod Leb128
 pub mod LineRow
-pub mod LineTable
+pub mod Rows
 pub mod Program
 pub mod Standard
-pub mod State
+pub mod Registers
 pub mod Table
 pub mod Unit
 pub mod UnitContents

@@ -3,7 +3,7 @@ use Rattle.std.specs.Prelude.{ℕ, zero, suc, ◌==◌, nat_lt, if◌then◌else
 use Rattle.std.specs.Prelude.{Option, Some, None, unwrap_or}
 use Rattle.std.specs.List.{filter_map, flat_map}
 use Rattle.std.specs.Option.{option_map_or}
-use Rattle.dwarf_line.specs.declared.state.State.{State}
+use Rattle.dwarf_line.specs.declared.registers.Registers.{Registers}
 use Rattle.dwarf_line.specs.Bytes.{◌>>=◌, bytes_at, number_at}
 use Rattle.dwarf_line.specs.Entry.{StringSections}
 use Rattle.dwarf_line.specs.Table.{table_at}
@@ -55,7 +55,7 @@ contents_of sections unit = do
 -- an accepted unit: the texts of its files, and its sequences of rows that are registers
 pub record LineUnit : Type 0 where
   pub files : List (List ℕ)
-  pub sequences : List (SequenceOf State)
+  pub sequences : List (SequenceOf Registers)
 
 -- A unit, where it is accepted.
 unfoldable pub unit_of : StringSections → List ℕ → Option LineUnit
@@ -65,11 +65,11 @@ unit_of sections unit = do
   Some (record { files = map (file_text contents.directories) contents.files; sequences = sequences })
 
 -- the units that are accepted, in their order
-abbrev pub accepted : StringSections → List ℕ → List LineUnit
-accepted sections section = filter_map (unit_of sections) (units section)
+abbrev pub accepted_units : StringSections → List ℕ → List LineUnit
+accepted_units sections section = filter_map (unit_of sections) (units section)
 
 -- the row of the registers, with the text of its file, which is unknown where the unit lacks the number
-abbrev pub line_row : List (List ℕ) → State → LineRow
+abbrev pub line_row : List (List ℕ) → Registers → LineRow
 line_row files state = record {
   address = state.address;
   file = unwrap_or (slice_get files state.file) unknown;
@@ -81,4 +81,4 @@ unit_sequences unit = map (sequence_by (line_row unit.files)) unit.sequences
 
 -- The sequences of a section in the order of reading, each with its rows and its end.
 abbrev pub line_sequences : StringSections → List ℕ → List (SequenceOf LineRow)
-line_sequences sections section = flat_map unit_sequences (accepted sections section)
+line_sequences sections section = flat_map unit_sequences (accepted_units sections section)

@@ -3,7 +3,7 @@
 ghost use Rattle.std.specs.Prelude.{◌≡◌, ◌-◌, ◌^◌, ◌<◌, ◌≤◌, length, slice_index, IfSome, OnSome, option_map};
 ghost use Rattle.dwarf_line.specs.inner.Reads.{Reads};
 ghost use Rattle.dwarf_line.specs.Header.{constants_at, parts_of, agrees};
-ghost use Rattle.dwarf_line.specs.State.{special_bytes, special_lines};
+ghost use Rattle.dwarf_line.specs.Registers.{special_bytes, special_lines};
 
 use crate::cursor::Cursor;
 use std::marker::Model;

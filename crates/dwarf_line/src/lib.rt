@@ -15,10 +15,10 @@ mod leb128;
 mod line_table;
 mod matrix;
 mod program;
+mod registers;
 mod row;
 mod section;
 pub mod standard;
-mod state;
 mod table;
 mod unit;
 

@@ -2,7 +2,7 @@
 
 ghost use Rattle.std.specs.Prelude.{◌≡◌, ◌+◌, ◌<◌, ◌≤◌, ◌^◌, length, slice_get, Some, unwrap_or, option_map};
 ghost use Rattle.dwarf_line.specs.LineRow.{covers, last_at, row_at, line_at};
-ghost use Rattle.dwarf_line.specs.LineTable.{IsRising, with_text, row_address, sequence_in, sequences_of};
+ghost use Rattle.dwarf_line.specs.Rows.{IsRising, with_text, row_address, sequence_in, sequences_of};
 ghost use Rattle.dwarf_line.specs.inner.Tables.{IsTable};
 ghost use Rattle.dwarf_line.specs.FileText.{unknown};
 ghost use Rattle.dwarf_line.specs.inner.Building.{lines_of};
@@ -22,10 +22,10 @@ pub struct Rows {
 }
 
 impl Model for Rows {
-    ghost use Rattle.dwarf_line.specs.LineTable.{LineTable};
+    ghost use Rattle.dwarf_line.specs.Rows.{Rows};
     ghost use Rattle.dwarf_line.specs.inner.Tables.{IsTable};
 
-    ghost Value = { LineTable };
+    ghost Value = { Rows };
 
     ghost view = { λ r. record {
       rows = r.matrix.rows;

@@ -4,13 +4,13 @@ ghost use Rattle.std.specs.Prelude.{◌≡◌, ◌≤◌, ◌<◌, ◌+◌, ◌^
 ghost use Rattle.dwarf_line.specs.Program.{last_address};
 ghost use Rattle.std.specs.Prelude.{map};
 ghost use Rattle.std.specs.List.{AllByRecursion};
-ghost use Rattle.dwarf_line.specs.inner.Files.{renamed};
+ghost use Rattle.dwarf_line.specs.inner.Files.{renamed_row};
 ghost use Rattle.dwarf_line.specs.inner.Matrix.{numbered_row, may_follow, with_row, with_end};
-ghost use Rattle.dwarf_line.specs.LineTable.{row_address};
+ghost use Rattle.dwarf_line.specs.Rows.{row_address};
 
 use crate::fault::Fault;
+use crate::registers::Registers;
 use crate::row::{Row, Sequence};
-use crate::state::State;
 use std::alloc::Global;
 use std::marker::Model;
 
@@ -26,7 +26,7 @@ pub struct Numbering {
 
 impl Numbering {
     /// The row of these registers.
-    pub fn row(self, state: State) -> Row
+    pub fn row(self, state: Registers) -> Row
         ensures { result ≡ numbered_row self.before self.count state }
     {
         let file = if state.file < self.count {
@@ -55,7 +55,7 @@ fn last_address(rows: &[Row]) -> u32
 /// Has each row name the number that stands for its file.
 fn rename_rows(rows: &mut [Row], numbers: &[u32])
     requires { AllByRecursion (λ row. row.file < length numbers.now) rows.old }
-    ensures { rows.new ≡ map (renamed numbers.now) rows.old }
+    ensures { rows.new ≡ map (renamed_row numbers.now) rows.old }
 {
     'rows: for i in 0..rows.len() {
         let row = rows[i];
@@ -182,7 +182,7 @@ impl Matrix {
     pub fn rename(&mut self, numbers: &[u32])
         requires { AllByRecursion (λ row. row.file < length numbers.now) self.old.rows }
         ensures { self.new ≡ record {
-          rows = map (renamed numbers.now) self.old.rows;
+          rows = map (renamed_row numbers.now) self.old.rows;
           sequences = self.old.sequences;
           first = self.old.first;
         } }

@@ -1,7 +1,7 @@
 //! A line number program, run over a matrix (DWARF 5, 6.2.5).
 
 ghost use Rattle.std.specs.Prelude.{◌≡◌, ◌≤◌, length, map, option_map, OnOk, IfOk};
-ghost use Rattle.dwarf_line.specs.Program.{program_sequences, sequence_by, state_after};
+ghost use Rattle.dwarf_line.specs.Program.{program_sequences, sequence_by, registers_after};
 ghost use Rattle.dwarf_line.specs.inner.Matrix.{numbered_row, Grows, Keeps, Takes, Refuses};
 
 use crate::cursor::Cursor;
@@ -9,12 +9,12 @@ use crate::fault::Fault;
 use crate::header::Header;
 use crate::instruction::Instruction;
 use crate::matrix::{Matrix, Numbering};
-use crate::state::{Outcome, State};
+use crate::registers::{Outcome, Registers};
 
 /// Takes what an instruction led to, and gives the registers behind it.
-fn take(outcome: Outcome, numbering: Numbering, matrix: &mut Matrix) -> Result<State, Fault>
+fn take(outcome: Outcome, numbering: Numbering, matrix: &mut Matrix) -> Result<Registers, Fault>
     requires { matrix.old.first ≤ length matrix.old.rows }
-    ensures ok { IfOk result (λ state. (state ≡ state_after outcome)
+    ensures ok { IfOk result (λ state. (state ≡ registers_after outcome)
         × Takes numbering.before numbering.count outcome matrix.old matrix.new) }
     ensures damaged { result ≡ Err Fault.Damaged
         → Refuses outcome matrix.old × (matrix.new ≡ matrix.old) }
@@ -27,7 +27,7 @@ fn take(outcome: Outcome, numbering: Numbering, matrix: &mut Matrix) -> Result<S
         }
         Outcome::End(address) => {
             matrix.end_sequence(address)?;
-            Ok(State::start())
+            Ok(Registers::start())
         }
     }
 }
@@ -49,7 +49,7 @@ pub fn run(
         → (program_sequences header.now program.now ≡ None) × Keeps matrix.old matrix.new }
 {
     let mut cursor = Cursor::new(program);
-    let mut state = State::start();
+    let mut state = Registers::start();
     'program: while !cursor.is_empty() {
         let instruction = Instruction::read(header, &mut cursor).ok_or(Fault::Damaged)?;
         let outcome = state.after(header, instruction).ok_or(Fault::Damaged)?;

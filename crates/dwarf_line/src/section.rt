@@ -1,8 +1,8 @@
 //! A section `.debug_line`, unit by unit (DWARF 5, 6.2).
 
 ghost use Rattle.std.specs.Prelude.{◌≡◌, ◌<◌, ◌^◌, length, IfOk};
-ghost use Rattle.dwarf_line.specs.Unit.{accepted, line_sequences};
-ghost use Rattle.dwarf_line.specs.LineTable.{sequences_of};
+ghost use Rattle.dwarf_line.specs.Unit.{accepted_units, line_sequences};
+ghost use Rattle.dwarf_line.specs.Rows.{sequences_of};
 
 use crate::building::Builder;
 use crate::cursor::Cursor;
@@ -20,7 +20,7 @@ fn read_units<'a>(
 ) -> Result<Rows, OutOfMemory>
     requires { length section.now < 2 ^ 32 }
     ensures sequences { IfOk result (λ rows. sequences_of rows ≡ line_sequences strings.now section.now) }
-    ensures units { IfOk result (λ rows. rows.unit_count ≡ length (accepted strings.now section.now)) }
+    ensures units { IfOk result (λ rows. rows.unit_count ≡ length (accepted_units strings.now section.now)) }
 {
     let mut builder = Builder::new(alloc)?;
     let mut cursor = Cursor::new(section);
@@ -39,7 +39,7 @@ pub fn rows(alloc: Global, section: &[u8], line_str: &[u8], str: &[u8]) -> Resul
     ensures sequences { IfOk result (λ rows. sequences_of rows
         ≡ line_sequences (record { line_str = line_str.now; strings = str.now }) section.now) }
     ensures units { IfOk result (λ rows. rows.unit_count
-        ≡ length (accepted (record { line_str = line_str.now; strings = str.now }) section.now)) }
+        ≡ length (accepted_units (record { line_str = line_str.now; strings = str.now }) section.now)) }
 {
     let strings = Strings::new(alloc, line_str, str)?;
     read_units(alloc, section, &strings)

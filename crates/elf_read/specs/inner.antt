@@ -1,5 +1,5 @@
 -- Words of the crate's own clauses, which no public one cites.
 pub mod Answers
 pub mod Fronts
-pub mod Kept
+pub mod Elf
 pub mod Tables

@@ -44,11 +44,11 @@ impl<'a> Model for Elf<'a> {
 
     ghost Value = { Image };
 
-    ghost use Rattle.elf_read.specs.inner.Kept.{IsKept};
+    ghost use Rattle.elf_read.specs.inner.Elf.{IsElf};
 
     ghost view = { λ e. image_of e.bytes.now };
 
-    ghost invariant = { λ e. IsKept e.bytes.now e.header e.segments.items e.names e.symbols e.symbol_names };
+    ghost invariant = { λ e. IsElf e.bytes.now e.header e.segments.items e.names e.symbols e.symbol_names };
 }
 
 /// Reads a file: the image of its bytes, or the first check that they fail.

@@ -8,6 +8,6 @@ pub data Telling : Type 0 where
   Closed : ArcKey → List ℕ → Telling
 
 -- These tellings, in their order, lead from the old sink to the new one.
-abbrev pub ToldAll : {S : Type 0} → (S → Telling → S → Type 0) → S → List Telling → S → Type 0
-ToldAll told old [] new = old ≡ new
-ToldAll {S} told old (t ∷ ts) new = (mid : S) × told old t mid × ToldAll told mid ts new
+abbrev pub TakesAll : {S : Type 0} → (S → Telling → S → Type 0) → S → List Telling → S → Type 0
+TakesAll takes old [] new = old ≡ new
+TakesAll {S} takes old (t ∷ ts) new = (mid : S) × takes old t mid × TakesAll takes mid ts new

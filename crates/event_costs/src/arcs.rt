@@ -12,19 +12,19 @@ pub trait ArcSink {
     ghost can_take: { Self → List Telling → Type 0 };
 
     /// the sink before a telling, the telling, and the sink after it
-    ghost told: { Self → Telling → Self → Type 0 };
+    ghost takes: { Self → Telling → Self → Type 0 };
 
     fn pushed(&mut self, arc: &ArcKey)
         requires { can_take self.old (Pushed arc.now ∷ []) }
-        ensures { told self.old (Pushed arc.now) self.new };
+        ensures { takes self.old (Pushed arc.now) self.new };
 
     fn closed(&mut self, arc: &ArcKey, cost: &Cost)
         requires { can_take self.old (Closed arc.now cost.now ∷ []) }
-        ensures { told self.old (Closed arc.now cost.now) self.new };
+        ensures { takes self.old (Closed arc.now cost.now) self.new };
 
     ghost takes_front: { (sink : Self) (front rest : List Telling) → can_take sink (front ++ rest)
         → can_take sink front };
 
     ghost takes_rest: { (old new : Self) (telling : Telling) (rest : List Telling)
-        → can_take old (telling ∷ rest) → told old telling new → can_take new rest };
+        → can_take old (telling ∷ rest) → takes old telling new → can_take new rest };
 }

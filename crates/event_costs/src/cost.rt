@@ -22,11 +22,11 @@ pub const EVENT_NAMES: [&str; EVENTS] = [
 pub fn event_names_shown(branches: bool) -> &'static [&'static str]
     ensures { map (λ name. name.now) result.now ≡ events_shown branches event_names }
 {
-    shown(branches, &EVENT_NAMES)
+    shown_part(branches, &EVENT_NAMES)
 }
 
 /// Of a list with an element for each kind of event, those of the events shown.
-fn shown<T>(branches: bool, all: &[T]) -> &[T]
+fn shown_part<T>(branches: bool, all: &[T]) -> &[T]
     requires { length all.now ≡ event_kinds }
     ensures { result.now ≡ events_shown branches all.now }
 {
@@ -69,10 +69,10 @@ impl Cost {
     }
 
     /// The numbers of the events shown: all of them where branches are asked for, else those that aren't of branches.
-    pub fn shown(&self, branches: bool) -> &[u64]
+    pub fn shown_numbers(&self, branches: bool) -> &[u64]
         ensures { result.now ≡ events_shown branches self.now }
     {
-        shown(branches, &self.n)
+        shown_part(branches, &self.n)
     }
 
     /// Adds each number of the other cost.

@@ -12,7 +12,7 @@ use Rattle.std.proofs.lemmas.List.{append_assoc, append-nil, length-append, leng
 use Rattle.std.proofs.lemmas.Slice.{between_to_end}
 use borrow.Rule.Slice.PartMut.{put_mid}
 use Rattle.event_costs.specs.declared.numbers.ThreadNo.{ThreadNo}
-use Rattle.guest_futex.specs.Waits.{Wait, wait_at, threads_of, waiters_at, with_waiters, queued, woken, still, moved}
+use Rattle.guest_futex.specs.Waits.{Wait, wait_at, threads_of, waiters_at, with_waiters, enqueue, woken_at, without_woken, requeue_at}
 use Rattle.guest_futex.specs.inner.Order.{IsRising, lower, higher, turned}
 use Rattle.guest_futex.proofs.WaitLaws.{block, lt-true, lt-false, waiters_at-with_waiters}
 use Rattle.guest_futex.proofs.WaitLaws.{waiters_at-with_waiters_other}
@@ -68,18 +68,18 @@ rising-with_waiters addr ts ws rising =
     (rising-lower addr 0 ws (block addr ts ++ higher addr ws) (omega arith) rising
     (rising-block addr ts (higher addr ws) (rising-higher addr 0 ws rising)))
 
-pub rising-queued : (thread : ThreadNo) (addr : ℕ) (ws : List Wait) → IsRising 0 ws → IsRising 0 (queued thread addr ws)
-unfolding queued
+pub rising-queued : (thread : ThreadNo) (addr : ℕ) (ws : List Wait) → IsRising 0 ws → IsRising 0 (enqueue thread addr ws)
+unfolding enqueue
 rising-queued thread addr ws rising = rising-with_waiters addr (waiters_at addr ws ++ thread ∷ []) ws rising
 
-pub rising-still : (addr count : ℕ) (ws : List Wait) → IsRising 0 ws → IsRising 0 (still addr count ws)
-unfolding still
+pub rising-still : (addr count : ℕ) (ws : List Wait) → IsRising 0 ws → IsRising 0 (without_woken addr count ws)
+unfolding without_woken
 rising-still addr count ws rising = rising-with_waiters addr (drop count (waiters_at addr ws)) ws rising
 
-pub rising-moved : (from count to : ℕ) (ws : List Wait) → IsRising 0 ws → IsRising 0 (moved from count to ws)
-unfolding moved
+pub rising-moved : (from count to : ℕ) (ws : List Wait) → IsRising 0 ws → IsRising 0 (requeue_at from count to ws)
+unfolding requeue_at
 rising-moved from count to ws rising =
-    rising-with_waiters to (waiters_at to (still from count ws) ++ woken from count ws) (still from count ws)
+    rising-with_waiters to (waiters_at to (without_woken from count ws) ++ woken_at from count ws) (without_woken from count ws)
     (rising-still from count ws rising)
 
 -- ---- the lists of all addresses make the whole
@@ -213,8 +213,8 @@ turned-part start end count ws is =
 -- the first waiters of an address put behind all others
 pub turned-still : (addr start count : ℕ) (ws : List Wait) → IsRising 0 ws → count ≤ length (waiters_at addr ws)
     → start ≡ length (lower addr ws)
-    → turned start count ws ≡ still addr count ws ++ block addr (woken addr count ws)
-unfolding still with_waiters
+    → turned start count ws ≡ without_woken addr count ws ++ block addr (woken_at addr count ws)
+unfolding without_woken with_waiters
 turned-still addr start count ws rising within is =
     let ts = waiters_at addr ws in
     let back = higher addr ws in

@@ -6,20 +6,20 @@ use Rattle.std.proofs.Math.Seq.{take-append_seam, drop-append_seam}
 use Rattle.std.proofs.lemmas.Bool.{cases_lt}
 use Rattle.std.proofs.lemmas.List.{length-take-le, take_all, drop_all}
 use Rattle.event_costs.specs.declared.numbers.ThreadNo.{ThreadNo}
-use Rattle.guest_futex.specs.Waits.{Wait, Queue, wait_at, threads_of, waiters_at, with_waiters, queued, woken, still}
-use Rattle.guest_futex.specs.Waits.{moved}
+use Rattle.guest_futex.specs.Waits.{Wait, Queue, wait_at, threads_of, waiters_at, with_waiters, enqueue, woken_at, without_woken}
+use Rattle.guest_futex.specs.Waits.{requeue_at}
 use Rattle.guest_futex.specs.inner.Order.{IsInOrder}
 use Rattle.guest_futex.proofs.WaitLaws.{block, length-still, threads_of-block}
 
 -- those taken out stand behind all others
 abbrev pub apart : ℕ → ℕ → List Wait → List Wait
-apart addr count ws = still addr count ws ++ block addr (woken addr count ws)
+apart addr count ws = without_woken addr count ws ++ block addr (woken_at addr count ws)
 
-pub length-woken : (addr i : ℕ) (ws : List Wait) → i ≤ length (waiters_at addr ws) → length (woken addr i ws) ≡ i
+pub length-woken : (addr i : ℕ) (ws : List Wait) → i ≤ length (waiters_at addr ws) → length (woken_at addr i ws) ≡ i
 length-woken addr i ws most = length-take-le i (waiters_at addr ws) most
 
 pub length-left : (addr count rest : ℕ) (ws : List Wait) → count ≤ length (waiters_at addr ws)
-    → rest + count ≡ length ws → rest ≡ length (still addr count ws)
+    → rest + count ≡ length ws → rest ≡ length (without_woken addr count ws)
 length-left addr count rest ws most all =
     omega (arith, length-still addr count ws, length-woken addr count ws most, all)
 
@@ -48,26 +48,26 @@ brought addr rest all front ts first behind =
 pub brought-queued : (thread : ThreadNo) (addr rest : ℕ) (all ws : List Wait) → all ≡ ws ++ wait_at addr thread ∷ []
     → rest ≡ length ws
     → with_waiters addr (waiters_at addr (take rest all) ++ threads_of (drop rest all)) (take rest all)
-    ≡ queued thread addr ws
-unfolding queued
+    ≡ enqueue thread addr ws
+unfolding enqueue
 brought-queued thread addr rest all ws parts is =
     brought addr rest all ws (thread ∷ []) (front_is rest all ws (wait_at addr thread ∷ []) parts is)
     (ap threads_of (back_is rest all ws (wait_at addr thread ∷ []) parts is))
 
 pub taken-apart : (addr count rest : ℕ) (all ws : List Wait) → all ≡ apart addr count ws
-    → rest ≡ length (still addr count ws) → threads_of (drop rest all) ≡ woken addr count ws
+    → rest ≡ length (without_woken addr count ws) → threads_of (drop rest all) ≡ woken_at addr count ws
 taken-apart addr count rest all ws parts is =
-    ap threads_of (back_is rest all (still addr count ws) (block addr (woken addr count ws)) parts is)
-    ∙ threads_of-block addr (woken addr count ws)
+    ap threads_of (back_is rest all (without_woken addr count ws) (block addr (woken_at addr count ws)) parts is)
+    ∙ threads_of-block addr (woken_at addr count ws)
 
 pub brought-moved : (from count rest to : ℕ) (all ws : List Wait) → all ≡ apart from count ws
-    → rest ≡ length (still from count ws)
+    → rest ≡ length (without_woken from count ws)
     → with_waiters to (waiters_at to (take rest all) ++ threads_of (drop rest all)) (take rest all)
-    ≡ moved from count to ws
-unfolding moved
+    ≡ requeue_at from count to ws
+unfolding requeue_at
 brought-moved from count rest to all ws parts is =
-    brought to rest all (still from count ws) (woken from count ws)
-    (front_is rest all (still from count ws) (block from (woken from count ws)) parts is)
+    brought to rest all (without_woken from count ws) (woken_at from count ws)
+    (front_is rest all (without_woken from count ws) (block from (woken_at from count ws)) parts is)
     (taken-apart from count rest all ws parts is)
 
 -- ---- no more than there are
@@ -86,20 +86,20 @@ drop-least n ts =
       | inr all ↦ drop_all (min (length ts) n) ts (omega arith) ∙ sym (drop_all n ts all)
     ]
 
-pub woken-least : (addr n : ℕ) (ws : List Wait) → woken addr (min (length (waiters_at addr ws)) n) ws ≡ woken addr n ws
+pub woken-least : (addr n : ℕ) (ws : List Wait) → woken_at addr (min (length (waiters_at addr ws)) n) ws ≡ woken_at addr n ws
 woken-least addr n ws = take-least n (waiters_at addr ws)
 
-pub still-least : (addr n : ℕ) (ws : List Wait) → still addr (min (length (waiters_at addr ws)) n) ws ≡ still addr n ws
-unfolding still
+pub still-least : (addr n : ℕ) (ws : List Wait) → without_woken addr (min (length (waiters_at addr ws)) n) ws ≡ without_woken addr n ws
+unfolding without_woken
 still-least addr n ws = ap (λ l. with_waiters addr l ws) (drop-least n (waiters_at addr ws))
 
 pub moved-least : (from n to : ℕ) (ws : List Wait)
-    → moved from (min (length (waiters_at from ws)) n) to ws ≡ moved from n to ws
-unfolding moved
+    → requeue_at from (min (length (waiters_at from ws)) n) to ws ≡ requeue_at from n to ws
+unfolding requeue_at
 moved-least from n to ws =
-    ap (λ l. with_waiters to (waiters_at to (still from (min (length (waiters_at from ws)) n) ws) ++ l)
-    (still from (min (length (waiters_at from ws)) n) ws)) (woken-least from n ws)
-    ∙ ap (λ l. with_waiters to (waiters_at to l ++ woken from n ws) l) (still-least from n ws)
+    ap (λ l. with_waiters to (waiters_at to (without_woken from (min (length (waiters_at from ws)) n) ws) ++ l)
+    (without_woken from (min (length (waiters_at from ws)) n) ws)) (woken-least from n ws)
+    ∙ ap (λ l. with_waiters to (waiters_at to l ++ woken_at from n ws) l) (still-least from n ws)
 
 -- ---- the waits as their value has them
 

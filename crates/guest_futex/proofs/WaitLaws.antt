@@ -10,7 +10,7 @@ use Rattle.std.proofs.lemmas.List.Elements.{filter-append}
 use Rattle.std.proofs.lemmas.List.Sums.{sum_by-cons, sum_by-append}
 use Rattle.event_costs.specs.declared.numbers.ThreadNo.{ThreadNo}
 use Rattle.guest_futex.specs.Waits.{Wait, wait_at, is_at, threads_of, waiters_at, times_waiting, EachWaitsOnce}
-use Rattle.guest_futex.specs.Waits.{with_waiters, queued, woken, still, moved, forgotten}
+use Rattle.guest_futex.specs.Waits.{with_waiters, enqueue, woken_at, without_woken, requeue_at, forget_thread}
 
 take_and_drop : (i : ℕ) (ts : List ThreadNo) → take i ts ++ drop i ts ≡ ts
 take_and_drop zero ts = refl
@@ -262,8 +262,8 @@ times_in-cons thread t ts = sum_by-cons (λ s. cond (s.0 == thread.0) 1 0) t ts
 
 -- once one more thread waits
 pub times_waiting-queued : (thread other : ThreadNo) (addr : ℕ) (ws : List Wait)
-    → times_waiting other (queued thread addr ws) ≡ times_waiting other ws + cond (thread.0 == other.0) 1 0
-unfolding queued
+    → times_waiting other (enqueue thread addr ws) ≡ times_waiting other ws + cond (thread.0 == other.0) 1 0
+unfolding enqueue
 times_waiting-queued thread other addr ws =
     omega (
       arith,
@@ -274,38 +274,38 @@ times_waiting-queued thread other addr ws =
 
 -- once some are taken out
 pub times_waiting-still : (thread : ThreadNo) (addr count : ℕ) (ws : List Wait)
-    → times_waiting thread (still addr count ws) + times_in thread (woken addr count ws) ≡ times_waiting thread ws
-unfolding still
+    → times_waiting thread (without_woken addr count ws) + times_in thread (woken_at addr count ws) ≡ times_waiting thread ws
+unfolding without_woken
 times_waiting-still thread addr count ws =
     omega (
       arith,
       times_waiting-with_waiters thread addr (drop count (waiters_at addr ws)) ws,
-      times_in-append thread (woken addr count ws) (drop count (waiters_at addr ws)),
+      times_in-append thread (woken_at addr count ws) (drop count (waiters_at addr ws)),
       ap (times_in thread) (take_and_drop count (waiters_at addr ws)),
     )
 
 -- once some are moved
 pub times_waiting-moved : (thread : ThreadNo) (from count to : ℕ) (ws : List Wait)
-    → times_waiting thread (moved from count to ws) ≡ times_waiting thread ws
-unfolding moved
+    → times_waiting thread (requeue_at from count to ws) ≡ times_waiting thread ws
+unfolding requeue_at
 times_waiting-moved thread from count to ws =
     omega (
       arith,
-      times_waiting-with_waiters thread to (waiters_at to (still from count ws) ++ woken from count ws)
-          (still from count ws),
-      times_in-append thread (waiters_at to (still from count ws)) (woken from count ws),
+      times_waiting-with_waiters thread to (waiters_at to (without_woken from count ws) ++ woken_at from count ws)
+          (without_woken from count ws),
+      times_in-append thread (waiters_at to (without_woken from count ws)) (woken_at from count ws),
       times_waiting-still thread from count ws,
     )
 
 -- once a thread is taken out
 pub times_waiting-forgotten : (thread other : ThreadNo) (ws : List Wait)
-    → times_waiting other (forgotten thread ws) ≤ times_waiting other ws
+    → times_waiting other (forget_thread thread ws) ≤ times_waiting other ws
 times_waiting-forgotten thread other [] = omega arith
 times_waiting-forgotten thread other (w ∷ ws) =
     by_test (w.thread.0 == thread.0) (times_waiting-forgotten thread other ws)
   where
-    by_test : (b : Bool) → times_waiting other (forgotten thread ws) ≤ times_waiting other ws
-        → times_waiting other (cond (not b) (w ∷ forgotten thread ws) (forgotten thread ws))
+    by_test : (b : Bool) → times_waiting other (forget_thread thread ws) ≤ times_waiting other ws
+        → times_waiting other (cond (not b) (w ∷ forget_thread thread ws) (forget_thread thread ws))
         ≤ times_waiting other (w ∷ ws)
     by_test true rest = omega (arith, rest, sum_by-cons (λ (v : Wait). cond (v.thread.0 == other.0) 1 0) w ws)
     by_test false rest =
@@ -313,11 +313,11 @@ times_waiting-forgotten thread other (w ∷ ws) =
           arith,
           rest,
           sum_by-cons (λ (v : Wait). cond (v.thread.0 == other.0) 1 0) w ws,
-          sum_by-cons (λ (v : Wait). cond (v.thread.0 == other.0) 1 0) w (forgotten thread ws),
+          sum_by-cons (λ (v : Wait). cond (v.thread.0 == other.0) 1 0) w (forget_thread thread ws),
         )
 
-pub length-queued : (thread : ThreadNo) (addr : ℕ) (ws : List Wait) → length (queued thread addr ws) ≡ length ws + 1
-unfolding queued
+pub length-queued : (thread : ThreadNo) (addr : ℕ) (ws : List Wait) → length (enqueue thread addr ws) ≡ length ws + 1
+unfolding enqueue
 length-queued thread addr ws =
     omega (
       arith,
@@ -326,28 +326,28 @@ length-queued thread addr ws =
     )
 
 pub length-still : (addr count : ℕ) (ws : List Wait)
-    → length (still addr count ws) + length (woken addr count ws) ≡ length ws
-unfolding still
+    → length (without_woken addr count ws) + length (woken_at addr count ws) ≡ length ws
+unfolding without_woken
 length-still addr count ws =
     omega (
       arith,
       length-with_waiters addr (drop count (waiters_at addr ws)) ws,
-      length-append (woken addr count ws) (drop count (waiters_at addr ws)),
+      length-append (woken_at addr count ws) (drop count (waiters_at addr ws)),
       ap (length {A = ThreadNo}) (take_and_drop count (waiters_at addr ws)),
     )
 
-pub length-moved : (from count to : ℕ) (ws : List Wait) → length (moved from count to ws) ≡ length ws
-unfolding moved
+pub length-moved : (from count to : ℕ) (ws : List Wait) → length (requeue_at from count to ws) ≡ length ws
+unfolding requeue_at
 length-moved from count to ws =
     omega (
       arith,
-      length-with_waiters to (waiters_at to (still from count ws) ++ woken from count ws) (still from count ws),
-      length-append (waiters_at to (still from count ws)) (woken from count ws),
+      length-with_waiters to (waiters_at to (without_woken from count ws) ++ woken_at from count ws) (without_woken from count ws),
+      length-append (waiters_at to (without_woken from count ws)) (woken_at from count ws),
       length-still from count ws,
     )
 
 pub length-forgotten : (thread : ThreadNo) (ws : List Wait)
-    → length (forgotten thread ws) + times_waiting thread ws ≡ length ws
+    → length (forget_thread thread ws) + times_waiting thread ws ≡ length ws
 length-forgotten thread [] = refl
 length-forgotten thread (w ∷ ws) =
     elim (cases_eq w.thread.0 thread.0) [
@@ -357,7 +357,7 @@ length-forgotten thread (w ∷ ws) =
             length-forgotten thread ws,
             sum_by-cons (λ (v : Wait). cond (v.thread.0 == thread.0) 1 0) w ws,
             ap one_or_none (eq-eqb w.thread.0 thread.0 same),
-            ap (λ b. length (cond (not b) (w ∷ forgotten thread ws) (forgotten thread ws)))
+            ap (λ b. length (cond (not b) (w ∷ forget_thread thread ws) (forget_thread thread ws)))
                 (eq-eqb w.thread.0 thread.0 same),
           )
       | inr differs ↦
@@ -366,62 +366,62 @@ length-forgotten thread (w ∷ ws) =
             length-forgotten thread ws,
             sum_by-cons (λ (v : Wait). cond (v.thread.0 == thread.0) 1 0) w ws,
             ap one_or_none (ne_eqb w.thread.0 thread.0 differs),
-            ap (λ b. length (cond (not b) (w ∷ forgotten thread ws) (forgotten thread ws)))
+            ap (λ b. length (cond (not b) (w ∷ forget_thread thread ws) (forget_thread thread ws)))
                 (ne_eqb w.thread.0 thread.0 differs),
           )
     ]
 
 -- the lists of addresses after each change
 pub waiters_at-queued : (thread : ThreadNo) (addr : ℕ) (ws : List Wait)
-    → waiters_at addr (queued thread addr ws) ≡ waiters_at addr ws ++ thread ∷ []
-unfolding queued
+    → waiters_at addr (enqueue thread addr ws) ≡ waiters_at addr ws ++ thread ∷ []
+unfolding enqueue
 waiters_at-queued thread addr ws = waiters_at-with_waiters addr (waiters_at addr ws ++ thread ∷ []) ws
 
 pub waiters_at-queued_other : (thread : ThreadNo) (addr other : ℕ) (ws : List Wait) → other ≢ addr
-    → waiters_at other (queued thread addr ws) ≡ waiters_at other ws
-unfolding queued
+    → waiters_at other (enqueue thread addr ws) ≡ waiters_at other ws
+unfolding enqueue
 waiters_at-queued_other thread addr other ws differs =
     waiters_at-with_waiters_other addr other (waiters_at addr ws ++ thread ∷ []) ws differs
 
 pub waiters_at-still : (addr count : ℕ) (ws : List Wait)
-    → waiters_at addr ws ≡ woken addr count ws ++ waiters_at addr (still addr count ws)
-unfolding still
+    → waiters_at addr ws ≡ woken_at addr count ws ++ waiters_at addr (without_woken addr count ws)
+unfolding without_woken
 waiters_at-still addr count ws =
-    sym (ap (λ (l : List ThreadNo). woken addr count ws ++ l)
+    sym (ap (λ (l : List ThreadNo). woken_at addr count ws ++ l)
     (waiters_at-with_waiters addr (drop count (waiters_at addr ws)) ws) ∙ take_and_drop count (waiters_at addr ws))
 
 pub waiters_at-still_other : (addr count other : ℕ) (ws : List Wait) → other ≢ addr
-    → waiters_at other (still addr count ws) ≡ waiters_at other ws
-unfolding still
+    → waiters_at other (without_woken addr count ws) ≡ waiters_at other ws
+unfolding without_woken
 waiters_at-still_other addr count other ws differs =
     waiters_at-with_waiters_other addr other (drop count (waiters_at addr ws)) ws differs
 
 pub waiters_at-moved_to : (from count to : ℕ) (ws : List Wait)
-    → waiters_at to (moved from count to ws) ≡ waiters_at to (still from count ws) ++ woken from count ws
-unfolding moved
+    → waiters_at to (requeue_at from count to ws) ≡ waiters_at to (without_woken from count ws) ++ woken_at from count ws
+unfolding requeue_at
 waiters_at-moved_to from count to ws =
-    waiters_at-with_waiters to (waiters_at to (still from count ws) ++ woken from count ws) (still from count ws)
+    waiters_at-with_waiters to (waiters_at to (without_woken from count ws) ++ woken_at from count ws) (without_woken from count ws)
 
 pub waiters_at-moved_from : (from count to : ℕ) (ws : List Wait) → from ≢ to
-    → waiters_at from ws ≡ woken from count ws ++ waiters_at from (moved from count to ws)
-unfolding moved
+    → waiters_at from ws ≡ woken_at from count ws ++ waiters_at from (requeue_at from count to ws)
+unfolding requeue_at
 waiters_at-moved_from from count to ws differs =
     waiters_at-still from count ws
-    ∙ ap (λ (l : List ThreadNo). woken from count ws ++ l)
-    (sym (waiters_at-with_waiters_other to from (waiters_at to (still from count ws) ++ woken from count ws)
-    (still from count ws) differs))
+    ∙ ap (λ (l : List ThreadNo). woken_at from count ws ++ l)
+    (sym (waiters_at-with_waiters_other to from (waiters_at to (without_woken from count ws) ++ woken_at from count ws)
+    (without_woken from count ws) differs))
 
 pub waiters_at-moved_other : (from count to other : ℕ) (ws : List Wait) → other ≢ from → other ≢ to
-    → waiters_at other (moved from count to ws) ≡ waiters_at other ws
-unfolding moved
+    → waiters_at other (requeue_at from count to ws) ≡ waiters_at other ws
+unfolding requeue_at
 waiters_at-moved_other from count to other ws differs apart =
-    waiters_at-with_waiters_other to other (waiters_at to (still from count ws) ++ woken from count ws)
-    (still from count ws) apart
+    waiters_at-with_waiters_other to other (waiters_at to (without_woken from count ws) ++ woken_at from count ws)
+    (without_woken from count ws) apart
     ∙ waiters_at-still_other from count other ws differs
 
 -- no thread waits twice after each change
 pub once-queued : (thread : ThreadNo) (addr : ℕ) (ws : List Wait) → EachWaitsOnce ws → times_waiting thread ws ≡ 0
-    → EachWaitsOnce (queued thread addr ws)
+    → EachWaitsOnce (enqueue thread addr ws)
 once-queued thread addr ws once apart other =
     elim (cases_eq thread.0 other.0) [
       | inl same ↦
@@ -440,13 +440,13 @@ once-queued thread addr ws once apart other =
     at_most_one true = omega arith
     at_most_one false = omega arith
 
-pub once-still : (addr count : ℕ) (ws : List Wait) → EachWaitsOnce ws → EachWaitsOnce (still addr count ws)
+pub once-still : (addr count : ℕ) (ws : List Wait) → EachWaitsOnce ws → EachWaitsOnce (without_woken addr count ws)
 once-still addr count ws once other = omega (arith, times_waiting-still other addr count ws, once other)
 
-pub once-moved : (from count to : ℕ) (ws : List Wait) → EachWaitsOnce ws → EachWaitsOnce (moved from count to ws)
+pub once-moved : (from count to : ℕ) (ws : List Wait) → EachWaitsOnce ws → EachWaitsOnce (requeue_at from count to ws)
 once-moved from count to ws once other = omega (arith, times_waiting-moved other from count to ws, once other)
 
-pub once-forgotten : (thread : ThreadNo) (ws : List Wait) → EachWaitsOnce ws → EachWaitsOnce (forgotten thread ws)
+pub once-forgotten : (thread : ThreadNo) (ws : List Wait) → EachWaitsOnce ws → EachWaitsOnce (forget_thread thread ws)
 once-forgotten thread ws once other = omega (arith, times_waiting-forgotten thread other ws, once other)
 
 times_waiting-cons : (thread : ThreadNo) (w : Wait) (ws : List Wait)
@@ -454,7 +454,7 @@ times_waiting-cons : (thread : ThreadNo) (w : Wait) (ws : List Wait)
 times_waiting-cons thread w ws = sum_by-cons (λ v. cond (v.thread.0 == thread.0) 1 0) w ws
 
 -- a thread that is taken out doesn't wait
-pub times_waiting-forgotten_self : (thread : ThreadNo) (ws : List Wait) → times_waiting thread (forgotten thread ws) ≡ 0
+pub times_waiting-forgotten_self : (thread : ThreadNo) (ws : List Wait) → times_waiting thread (forget_thread thread ws) ≡ 0
 times_waiting-forgotten_self thread [] = refl
 times_waiting-forgotten_self thread (w ∷ ws) =
     elim (cases_eq w.thread.0 thread.0) [
@@ -463,7 +463,7 @@ times_waiting-forgotten_self thread (w ∷ ws) =
           rw (ne_eqb w.thread.0 thread.0 differs)
           (omega (
             arith,
-            times_waiting-cons thread w (forgotten thread ws),
+            times_waiting-cons thread w (forget_thread thread ws),
             ap one_or_none (ne_eqb w.thread.0 thread.0 differs),
             times_waiting-forgotten_self thread ws,
           ))

@@ -42,22 +42,22 @@ with_waiters addr threads waits =
     ++ filter (λ wait. nat_lt addr wait.addr) waits
 
 -- one more waiter, at the end of its address
-unfoldable pub queued : ThreadNo → ℕ → List Wait → List Wait
-queued thread addr waits = with_waiters addr (waiters_at addr waits ++ thread ∷ []) waits
+unfoldable pub enqueue : ThreadNo → ℕ → List Wait → List Wait
+enqueue thread addr waits = with_waiters addr (waiters_at addr waits ++ thread ∷ []) waits
 
 -- the first waiters of an address, at most so many
-abbrev pub woken : ℕ → ℕ → List Wait → List ThreadNo
-woken addr count waits = take count (waiters_at addr waits)
+abbrev pub woken_at : ℕ → ℕ → List Wait → List ThreadNo
+woken_at addr count waits = take count (waiters_at addr waits)
 
 -- what is left once these are taken out
-unfoldable pub still : ℕ → ℕ → List Wait → List Wait
-still addr count waits = with_waiters addr (drop count (waiters_at addr waits)) waits
+unfoldable pub without_woken : ℕ → ℕ → List Wait → List Wait
+without_woken addr count waits = with_waiters addr (drop count (waiters_at addr waits)) waits
 
 -- the first waiters of an address, at most so many, moved in their order to the end of another or of the same
-unfoldable pub moved : ℕ → ℕ → ℕ → List Wait → List Wait
-moved from count to waits =
-    with_waiters to (waiters_at to (still from count waits) ++ woken from count waits) (still from count waits)
+unfoldable pub requeue_at : ℕ → ℕ → ℕ → List Wait → List Wait
+requeue_at from count to waits =
+    with_waiters to (waiters_at to (without_woken from count waits) ++ woken_at from count waits) (without_woken from count waits)
 
 -- the thread taken out
-abbrev pub forgotten : ThreadNo → List Wait → List Wait
-forgotten thread waits = filter (λ wait. not (wait.thread.0 == thread.0)) waits
+abbrev pub forget_thread : ThreadNo → List Wait → List Wait
+forget_thread thread waits = filter (λ wait. not (wait.thread.0 == thread.0)) waits

@@ -2,7 +2,7 @@
 //! the list is turned once, or twice.
 
 ghost use Rattle.std.specs.Prelude.{◌≡◌, ◌+◌, ◌++◌, ◌≤◌, length, take, drop, map, vec_len, vec_capacity};
-ghost use Rattle.guest_futex.specs.Waits.{wait_at, threads_of, waiters_at, with_waiters, woken, still};
+ghost use Rattle.guest_futex.specs.Waits.{wait_at, threads_of, waiters_at, with_waiters, woken_at, without_woken};
 ghost use Rattle.guest_futex.specs.inner.Order.{IsRising, lower, turned};
 
 use event_costs::ThreadNo;
@@ -34,7 +34,7 @@ pub fn end_of(waits: &[Wait], addr: u32) -> usize
 pub fn take_out(waits: &mut [Wait], addr: u32, count: usize)
     requires rising { IsRising 0 waits.old }
     requires within { count ≤ length (waiters_at addr waits.old) }
-    ensures { waits.new ≡ still addr count waits.old ++ map (wait_at addr) (woken addr count waits.old) }
+    ensures { waits.new ≡ without_woken addr count waits.old ++ map (wait_at addr) (woken_at addr count waits.old) }
 {
     let start = start_of(waits, addr);
     turn(waits, start, count);

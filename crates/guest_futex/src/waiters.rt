@@ -3,7 +3,7 @@
 ghost use Rattle.std.specs.Prelude.{◌≡◌, ◌≢◌, ℕ, ◌+◌, ◌<◌, ◌≤◌, ◌++◌, ◌∷◌, [], ◌↔◌};
 ghost use Rattle.std.specs.Prelude.{min, length, IsTrue, IfOk, OnOk, OnErr};
 ghost use Rattle.guest_futex.specs.Waits.{waiters_at, times_waiting, IsWaiting, EachWaitsOnce};
-ghost use Rattle.guest_futex.specs.Waits.{queued, woken, still, moved, forgotten};
+ghost use Rattle.guest_futex.specs.Waits.{enqueue, woken_at, without_woken, requeue_at, forget_thread};
 
 use crate::queue::{Wait, bring_in, end_of, list_threads, start_of, take_out};
 use crate::thread_list::ThreadList;
@@ -59,7 +59,7 @@ impl Waiters {
         requires room { 1 ≤ self.old.spare }
         requires apart { times_waiting thread self.old.waits ≡ 0 }
         requires few { length self.old.waits < 65535 }
-        ensures queued { self.new.waits ≡ queued thread addr self.old.waits }
+        ensures queued { self.new.waits ≡ enqueue thread addr self.old.waits }
         ensures last { waiters_at addr self.new.waits ≡ waiters_at addr self.old.waits ++ thread ∷ [] }
         ensures others { (other : ℕ) → other ≢ addr → waiters_at other self.new.waits
             ≡ waiters_at other self.old.waits }
@@ -75,16 +75,16 @@ impl Waiters {
     /// Takes the first `n` waiters of an address out, or all, and answers them in order of waiting. It takes memory
     /// where there are some.
     pub fn wake(&mut self, addr: u32, n: u32) -> Result<ThreadList, OutOfMemory>
-        ensures first { IfOk result (λ threads. threads ≡ woken addr n self.old.waits) }
-        ensures still { OnOk result (self.new.waits ≡ still addr n self.old.waits) }
+        ensures first { IfOk result (λ threads. threads ≡ woken_at addr n self.old.waits) }
+        ensures still { OnOk result (self.new.waits ≡ without_woken addr n self.old.waits) }
         ensures rest { OnOk result (waiters_at addr self.old.waits
-            ≡ woken addr n self.old.waits ++ waiters_at addr self.new.waits) }
+            ≡ woken_at addr n self.old.waits ++ waiters_at addr self.new.waits) }
         ensures others { (other : ℕ) → other ≢ addr → waiters_at other self.new.waits
             ≡ waiters_at other self.old.waits }
         ensures once { EachWaitsOnce self.new.waits }
         ensures number { IfOk result (λ threads. length self.new.waits + length threads ≡ length self.old.waits) }
         ensures room { IfOk result (λ threads. self.new.spare ≡ self.old.spare + length threads) }
-        ensures memory { OnErr result (1 ≤ length (woken addr n self.old.waits)) }
+        ensures memory { OnErr result (1 ≤ length (woken_at addr n self.old.waits)) }
         ensures err { OnErr result (self.new ≡ self.old) }
     {
         let count = self.waiting(addr).min(n) as usize;
@@ -100,11 +100,11 @@ impl Waiters {
     /// and answers how many. It takes no memory.
     pub fn requeue(&mut self, from: u32, n: u32, to: u32) -> u32
         ensures count { result ≡ min (length (waiters_at from self.old.waits)) n }
-        ensures moved { self.new.waits ≡ moved from n to self.old.waits }
-        ensures last { waiters_at to self.new.waits ≡ waiters_at to (still from n self.old.waits)
-            ++ woken from n self.old.waits }
+        ensures moved { self.new.waits ≡ requeue_at from n to self.old.waits }
+        ensures last { waiters_at to self.new.waits ≡ waiters_at to (without_woken from n self.old.waits)
+            ++ woken_at from n self.old.waits }
         ensures rest { from ≢ to → waiters_at from self.old.waits
-            ≡ woken from n self.old.waits ++ waiters_at from self.new.waits }
+            ≡ woken_at from n self.old.waits ++ waiters_at from self.new.waits }
         ensures others { (other : ℕ) → other ≢ from → other ≢ to
             → waiters_at other self.new.waits ≡ waiters_at other self.old.waits }
         ensures once { EachWaitsOnce self.new.waits }
@@ -121,7 +121,7 @@ impl Waiters {
     /// Takes a thread out. False where it doesn't wait. It takes no memory, and looks through all that wait.
     pub fn forget(&mut self, thread: ThreadNo) -> bool
         ensures found { IsTrue result ↔ IsWaiting thread self.old.waits }
-        ensures forgotten { self.new.waits ≡ forgotten thread self.old.waits }
+        ensures forgotten { self.new.waits ≡ forget_thread thread self.old.waits }
         ensures gone { times_waiting thread self.new.waits ≡ 0 }
         ensures once { EachWaitsOnce self.new.waits }
         ensures number { length self.new.waits + times_waiting thread self.old.waits ≡ length self.old.waits }

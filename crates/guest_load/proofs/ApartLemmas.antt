@@ -12,7 +12,7 @@ use Rattle.elf_read.specs.Image.{Image}
 use Rattle.elf_read.specs.Overlaps.{IsApart}
 use Rattle.elf_read.specs.Programs.{IsPlaced, covers}
 use Rattle.elf_read.specs.declared.program.Segment.{Segment}
-use Rattle.guest_mem.specs.Memory.{Memory, in_range, byte_at, cell_byte, granted}
+use Rattle.guest_mem.specs.Memory.{Memory, in_range, byte_at, cell_byte, granted_permission}
 use Rattle.guest_mem.proofs.Memories.{get-memory_of}
 use Rattle.guest_load.specs.First.{first_cell, first_memory, HasItsBytes}
 use Rattle.guest_load.specs.Segments.{touches, is_touched, page_permission, has_file_byte, file_byte, segment_byte}
@@ -89,7 +89,7 @@ first_byte image args a low touched =
     ∙ ap cell_byte (cond-true (is_touched image.segments (a / 4096))
     (Some (record {
       byte = segment_byte image.bytes image.segments a;
-      permission = granted (page_permission image.segments (a / 4096));
+      permission = granted_permission (page_permission image.segments (a / 4096));
     })) None touched)
 
 own_byte : (image : Image) (args : List (List ℕ)) (j : ℕ) (d : Segment) (k : ℕ)

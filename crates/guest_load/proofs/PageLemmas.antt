@@ -8,7 +8,7 @@ use Rattle.std.proofs.lemmas.List.Folds.{list_any_more}
 use Rattle.elf_read.specs.Standard.{pf_r, pf_w, pf_x, has_flag}
 use Rattle.elf_read.specs.declared.program.Segment.{Segment}
 use Rattle.guest_load.specs.Segments.{touches, is_touched, gives, permission_bits}
-use Rattle.guest_load.specs.inner.Stages.{permitted, page_plan, IsTable}
+use Rattle.guest_load.specs.inner.Stages.{permission_with, page_plan, IsTable}
 
 -- ---- permissions as bits
 
@@ -85,7 +85,7 @@ unfolding gives
 gives_more flag segments i page d h = list_any_more _ segments i d h
 
 page_plan_more : (segments : List Segment) (i page : ℕ) (d : Segment) → i < length segments
-    → permitted (get_or segments i d) page (page_plan (take i segments) page) ≡ page_plan (take (i + 1) segments) page
+    → permission_with (get_or segments i d) page (page_plan (take i segments) page) ≡ page_plan (take (i + 1) segments) page
 page_plan_more segments i page d h =
     let s : Segment = get_or segments i d in
     let front : List Segment = take i segments in
@@ -98,8 +98,8 @@ page_plan_more segments i page d h =
 -- the table of a front of the segments, from the one before it
 pub IsTable_more : (segments : List Segment) (i : ℕ) (d : Segment) (old lent new : List (Option ℕ))
     → i < length segments → IsTable old (page_plan (take i segments)) → lent ≡ old
-    → IsTable new (λ page. permitted (get_or segments i d) page (slice_index_or lent page None))
+    → IsTable new (λ page. permission_with (get_or segments i d) page (slice_index_or lent page None))
     → IsTable new (page_plan (take (i + 1) segments))
 IsTable_more segments i d old lent new h before same after page =
-    after page ∙ ap (λ t. permitted (get_or segments i d) page (slice_index_or t page None)) same
-    ∙ ap (permitted (get_or segments i d) page) (before page) ∙ page_plan_more segments i page d h
+    after page ∙ ap (λ t. permission_with (get_or segments i d) page (slice_index_or t page None)) same
+    ∙ ap (permission_with (get_or segments i d) page) (before page) ∙ page_plan_more segments i page d h

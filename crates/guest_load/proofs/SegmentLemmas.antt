@@ -10,8 +10,8 @@ use Rattle.std.proofs.lemmas.List.Folds.{list_any_at}
 use Rattle.elf_read.specs.Image.{Image}
 use Rattle.elf_read.specs.Programs.{IsPlaced}
 use Rattle.elf_read.specs.declared.program.Segment.{Segment}
-use Rattle.guest_mem.specs.Memory.{Cell, Memory, memory_of, in_range, count_below, page_count, allowed, may}
-use Rattle.guest_mem.specs.Memory.{cell_allows, granted, with_byte, written}
+use Rattle.guest_mem.specs.Memory.{Cell, Memory, memory_of, in_range, count_below, page_count, allows_at, may}
+use Rattle.guest_mem.specs.Memory.{cell_allows, granted_permission, with_byte, write_at}
 use Rattle.guest_mem.proofs.Memories.{get-memory_of, memory_of-same, memory_of-changed}
 use Rattle.guest_mem.proofs.Ranges.{may-from}
 use Rattle.guest_mem.proofs.Mapped.{allows_nothing}
@@ -103,9 +103,9 @@ filled_more : (bytes : List ℕ) (segments : List Segment) (n : ℕ) (d : Segmen
     → IsPlaced bytes (get_or segments n d)
     → bs ≡ slice_range bytes (get_or segments n d).offset
     ((get_or segments n d).offset + (get_or segments n d).file_len)
-    → written (memory_of (filled_cell bytes segments (drop (n + 1) segments))) (get_or segments n d).addr bs
+    → write_at (memory_of (filled_cell bytes segments (drop (n + 1) segments))) (get_or segments n d).addr bs
     ≡ memory_of (filled_cell bytes segments (drop n segments))
-unfolding written filled_cell
+unfolding write_at filled_cell
 filled_more bytes segments n d bs h placed is =
     let s : Segment = get_or segments n d in
     let rest : List Segment = drop (n + 1) segments in
@@ -122,7 +122,7 @@ filled_more bytes segments n d bs h placed is =
 
 all_bytes : (t : Bool) (permission byte : ℕ)
     → option_map (with_byte byte) (blank (cond t (Some permission) None))
-    ≡ cond t (Some (record { byte = byte; permission = granted permission })) None
+    ≡ cond t (Some (record { byte = byte; permission = granted_permission permission })) None
 all_bytes true permission byte = refl
 all_bytes false permission byte = refl
 
@@ -142,12 +142,12 @@ touches_own s a from to =
 
 allowed_there : (t : Bool) (permission byte : ℕ) → t ≡ true
     → cell_allows 0 (option_map (with_byte byte) (blank (cond t (Some permission) None))) ≡ true
-allowed_there true permission byte is = allows_nothing (granted permission)
+allowed_there true permission byte is = allows_nothing (granted_permission permission)
 allowed_there false permission byte is = cc
 
 allowed_filled : (bytes : List ℕ) (segments some : List Segment) (a : ℕ) → a < 2 ^ 32
-    → is_touched segments (a / 4096) ≡ true → allowed (memory_of (filled_cell bytes segments some)) 0 a ≡ true
-unfolding allowed filled_cell blank_cell
+    → is_touched segments (a / 4096) ≡ true → allows_at (memory_of (filled_cell bytes segments some)) 0 a ≡ true
+unfolding allows_at filled_cell blank_cell
 allowed_filled bytes segments some a h is =
     and_from (nat_lt a (2 ^ 32)) _ (lt-ltb a (2 ^ 32) h)
     (ap (cell_allows 0) (get-memory_of (filled_cell bytes segments some) a h)
@@ -185,10 +185,10 @@ pub fill_more : (bytes : List ℕ) (segments : List Segment) (left : ℕ) (d : S
     → IsPlaced bytes (get_or segments (left - 1) d)
     → bs ≡ slice_range bytes (get_or segments (left - 1) d).offset
     ((get_or segments (left - 1) d).offset + (get_or segments (left - 1) d).file_len)
-    → n ≡ written m (get_or segments (left - 1) d).addr bs
+    → n ≡ write_at m (get_or segments (left - 1) d).addr bs
     → n ≡ memory_of (filled_cell bytes segments (drop (left - 1) segments))
 fill_more bytes segments left d bs m n some within is placed read after =
     let next : left ≡ left - 1 + 1 = omega arith in
-    after ∙ ap (λ o. written o (get_or segments (left - 1) d).addr bs)
+    after ∙ ap (λ o. write_at o (get_or segments (left - 1) d).addr bs)
     (is ∙ ap (λ k. memory_of (filled_cell bytes segments (drop k segments))) next)
     ∙ filled_more bytes segments (left - 1) d bs (omega arith) placed read

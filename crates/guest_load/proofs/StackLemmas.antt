@@ -7,8 +7,8 @@ use Rattle.std.proofs.lemmas.Bool.Decides.{nat_tests}
 use Rattle.std.proofs.lemmas.List.FromFn.{length-map-range_with_len}
 use Rattle.std.proofs.lemmas.List.Sums.{sum_by-cons}
 use Rattle.elf_read.specs.Image.{Image}
-use Rattle.guest_mem.specs.Memory.{Cell, Memory, memory_of, in_range, count_below, page_count, may, granted, with_byte}
-use Rattle.guest_mem.specs.Memory.{written, zeroed, bytes_of}
+use Rattle.guest_mem.specs.Memory.{Cell, Memory, memory_of, in_range, count_below, page_count, may, granted_permission, with_byte}
+use Rattle.guest_mem.specs.Memory.{write_at, zero_range, bytes_of}
 use Rattle.guest_mem.proofs.Memories.{memory_of-changed}
 use Rattle.guest_mem.proofs.Counts.{count-same}
 use Rattle.guest_mem.proofs.Laws.{may-zeroed}
@@ -66,17 +66,17 @@ stacked image bytes q = cond (in_range stack_start stack_len q) (Some (record { 
 
 -- zeros where the stack is
 pub zero_stack : (image : Image)
-    → zeroed (memory_of (segment_cell image)) stack_start stack_len 3 ≡ memory_of (stacked image (λ _. 0))
-unfolding zeroed stacked
+    → zero_range (memory_of (segment_cell image)) stack_start stack_len 3 ≡ memory_of (stacked image (λ _. 0))
+unfolding zero_range stacked
 zero_stack image = sym (memory_of-changed (segment_cell image) (stacked image (λ _. 0)) stack_start stack_len _
     (λ q h. refl))
 
 -- the program's pages, and the stack's
 pub stacked_pages : (image : Image) (m : Memory) → m ≡ memory_of (segment_cell image)
-    → page_count (zeroed m stack_start stack_len 3) ≡ pages_of image
+    → page_count (zero_range m stack_start stack_len 3) ≡ pages_of image
 unfolding pages_of stacked
 stacked_pages image m is =
-    ap (λ o. page_count (zeroed o stack_start stack_len 3)) is ∙ ap page_count (zero_stack image)
+    ap (λ o. page_count (zero_range o stack_start stack_len 3)) is ∙ ap page_count (zero_stack image)
     ∙ page_count-memory_of (stacked image (λ _. 0))
     ∙ count-same _ _ (2 ^ 20) (λ p h. there p (in_range stack_start stack_len (p * 4096))
     (in_range (stack_start / 4096) stack_pages p) (grind (arith, nat_tests)))
@@ -97,7 +97,7 @@ stacked_pages image m is =
         either (is_touched image.segments (p * 4096 / 4096)) b (record { byte = 0; permission = 3 })
         (record {
           byte = segment_byte image.bytes image.segments (p * 4096);
-          permission = granted (page_permission image.segments (p * 4096 / 4096));
+          permission = granted_permission (page_permission image.segments (p * 4096 / 4096));
         })
         ∙ (λ i. is_touched image.segments (place p i) || same i)
 
@@ -113,8 +113,8 @@ program_pages image = count-le _ _ (2 ^ 20) (λ p h. one_or p h)
 
 -- bytes that are put on the stack
 laid : (image : Image) (bytes : ℕ → ℕ) (a : ℕ) (bs : List ℕ) → stack_start ≤ a → a + length bs ≤ stack_start + stack_len
-    → written (memory_of (stacked image bytes)) a bs ≡ memory_of (stacked image (λ q. overlaid a bs q (bytes q)))
-unfolding written stacked
+    → write_at (memory_of (stacked image bytes)) a bs ≡ memory_of (stacked image (λ q. overlaid a bs q (bytes q)))
+unfolding write_at stacked
 laid image bytes a bs from to =
     sym (memory_of-changed (stacked image bytes) (stacked image (λ q. overlaid a bs q (bytes q))) a (length bs) _
     (λ q h. at q (in_range a (length bs) q) (in_range stack_start stack_len q) (inside q)))
@@ -150,10 +150,10 @@ in_order image args short =
 -- the three pieces that are put, one after another
 abbrev pub stack_written : Memory → List ℕ → ℕ → List ℕ → ℕ → List ℕ → Memory
 stack_written m sixteen start arguments pointer words =
-    written (written (written m sixteen_start sixteen) start arguments) pointer words
+    write_at (write_at (write_at m sixteen_start sixteen) start arguments) pointer words
 
 pub stack_is : (image : Image) (args : List (List ℕ)) → arguments_len args ≤ 65536
-    → stack_written (zeroed (memory_of (segment_cell image)) stack_start stack_len 3) sixteen_bytes
+    → stack_written (zero_range (memory_of (segment_cell image)) stack_start stack_len 3) sixteen_bytes
     (arguments_start args) (arguments_bytes args) (stack_pointer image args)
     (little_endian (stack_words image args)) ≡ first_memory image args
 unfolding first_cell stack_byte stacked
@@ -166,9 +166,9 @@ stack_is image args short =
     let start = arguments_start args in
     let arguments = arguments_bytes args in
     ap (λ m. stack_written m sixteen_bytes start arguments pointer words) (zero_stack image)
-    ∙ ap (λ m. written (written m start arguments) pointer words)
+    ∙ ap (λ m. write_at (write_at m start arguments) pointer words)
     (laid image (λ _. 0) sixteen_start sixteen_bytes (omega arith) (omega arith))
-    ∙ ap (λ m. written m pointer words)
+    ∙ ap (λ m. write_at m pointer words)
     (laid image (λ q. overlaid sixteen_start sixteen_bytes q 0) start arguments
     (omega (arith, at.in_stack, at.words_below)) (omega (arith, at.arguments_end, arguments_long)))
     ∙ laid image (λ q. overlaid start arguments q (overlaid sixteen_start sixteen_bytes q 0)) pointer words at.in_stack
@@ -201,18 +201,18 @@ pointer_is image args n len words needed long is =
 -- the memory after each step
 pub stack_put : (image : Image) (args : List (List ℕ)) (m zeros top upper all : Memory) (arguments words : List ℕ)
     (start pointer : ℕ) → arguments_len args ≤ 65536
-    → m ≡ memory_of (segment_cell image) → zeros ≡ zeroed m stack_start stack_len 3
-    → top ≡ written zeros sixteen_start sixteen_bytes → upper ≡ written top start arguments
-    → all ≡ written upper pointer words
+    → m ≡ memory_of (segment_cell image) → zeros ≡ zero_range m stack_start stack_len 3
+    → top ≡ write_at zeros sixteen_start sixteen_bytes → upper ≡ write_at top start arguments
+    → all ≡ write_at upper pointer words
     → arguments ≡ arguments_bytes args → words ≡ little_endian (stack_words image args) → start ≡ arguments_start args
     → pointer ≡ stack_pointer image args → all ≡ first_memory image args
 stack_put image args m zeros top upper all arguments words start pointer short before mapped topped uppered alled bs ws
     at_start at_pointer =
-    alled ∙ ap (λ o. written o pointer words)
-    (uppered ∙ ap (λ o. written o start arguments)
-    (topped ∙ ap (λ o. written o sixteen_start sixteen_bytes)
-    (mapped ∙ ap (λ o. zeroed o stack_start stack_len 3) before)))
-    ∙ (λ i. stack_written (zeroed (memory_of (segment_cell image)) stack_start stack_len 3) sixteen_bytes (at_start i)
+    alled ∙ ap (λ o. write_at o pointer words)
+    (uppered ∙ ap (λ o. write_at o start arguments)
+    (topped ∙ ap (λ o. write_at o sixteen_start sixteen_bytes)
+    (mapped ∙ ap (λ o. zero_range o stack_start stack_len 3) before)))
+    ∙ (λ i. stack_written (zero_range (memory_of (segment_cell image)) stack_start stack_len 3) sixteen_bytes (at_start i)
     (bs i) (at_pointer i) (ws i))
     ∙ stack_is image args short
 
@@ -221,10 +221,10 @@ stack_put image args m zeros top upper all arguments words start pointer short b
 abbrev pub IsLaid : Memory → Type 0
 IsLaid m = (a n : ℕ) → stack_start ≤ a → a + n ≤ stack_start + stack_len → may m 0 a n ≡ true
 
-pub laid_zeros : (m zeros : Memory) → zeros ≡ zeroed m stack_start stack_len 3 → IsLaid zeros
+pub laid_zeros : (m zeros : Memory) → zeros ≡ zero_range m stack_start stack_len 3 → IsLaid zeros
 laid_zeros m zeros is a n from to = ap (λ o. may o 0 a n) is
     ∙ may-zeroed m stack_start stack_len 3 0 a n (omega arith) from to refl
 
-pub laid_over : (m n : Memory) (a : ℕ) (bs : List ℕ) → n ≡ written m a bs → IsLaid m → IsLaid n
+pub laid_over : (m n : Memory) (a : ℕ) (bs : List ℕ) → n ≡ write_at m a bs → IsLaid m → IsLaid n
 laid_over m n a bs is before b count from to = ap (λ o. may o 0 b count) is ∙ may-written m a bs 0 b count
     ∙ before b count from to

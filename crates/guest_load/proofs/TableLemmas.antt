@@ -8,7 +8,7 @@ use Rattle.std.specs.FinMap as map
 use Rattle.std.proofs.lemmas.Bool.{cases_lt, cases_Bool, cond-true, cond-false, lt-ltb, le-ltb}
 use Rattle.std.proofs.lemmas.Bool.Decides.{nat_tests}
 use Rattle.std.proofs.lemmas.List.{get_or-take, get_or_past, get_or-drop, length-take, take_at, take_rest}
-use Rattle.guest_mem.specs.Memory.{Cell, memory_of, in_range, count_below, page_count, granted, zeroed}
+use Rattle.guest_mem.specs.Memory.{Cell, memory_of, in_range, count_below, page_count, granted_permission, zero_range}
 use Rattle.guest_mem.proofs.Memories.{get-memory_of, get_past, memory_of-same, memory_of-changed}
 use Rattle.guest_mem.proofs.Counts.{count-same}
 use Rattle.guest_load.specs.inner.Stages.{blank, table_cell}
@@ -67,9 +67,9 @@ run_more table page count p permission run =
 
 -- a run of pages of zeros
 pub table_run : (table : List (Option ℕ)) (page count permission : ℕ) → HasRun table page count (Some permission)
-    → zeroed (memory_of (table_cell (take page table))) (page * 4096) (count * 4096) permission
+    → zero_range (memory_of (table_cell (take page table))) (page * 4096) (count * 4096) permission
     ≡ memory_of (table_cell (take (page + count) table))
-unfolding zeroed table_cell
+unfolding zero_range table_cell
 table_run table page count permission run =
     sym (memory_of-changed (table_cell (take page table)) (table_cell (take (page + count) table)) (page * 4096)
     (count * 4096) _ (λ q h.
@@ -79,7 +79,7 @@ table_run table page count permission run =
   where
     pushed : (q : ℕ) (b c : Bool) → b ≡ c
         → blank (cond b (Some permission) (slice_index_or (take page table) (q / 4096) None))
-        ≡ cond c (Some (record { byte = 0; permission = granted permission }))
+        ≡ cond c (Some (record { byte = 0; permission = granted_permission permission }))
         (blank (slice_index_or (take page table) (q / 4096) None))
     pushed q true true same = refl
     pushed q true false same = cc

@@ -7,7 +7,7 @@ use Rattle.guest_mem.specs.Memory.{Cell, Memory, in_range, memory_of, byte_at}
 use Rattle.guest_load.specs.declared.thread.Thread.{Thread}
 use Rattle.guest_load.specs.Segments.{permission_bits, segment_cell, break_of}
 use Rattle.guest_load.specs.Stack.{stack_start, stack_pages, stack_byte, stack_pointer}
-use Rattle.guest_load.specs.State.{State}
+use Rattle.guest_load.specs.Guest.{Guest}
 
 -- what stands at an address: the stack, which may be read and written, or what the segments put there
 unfoldable pub first_cell : Image → List (List ℕ) → ℕ → Option Cell
@@ -28,8 +28,8 @@ thread_at pc pointer = record {
 }
 
 -- the state in which a program begins, with its arguments and its input
-abbrev pub first_state : Image → List (List ℕ) → List ℕ → State
-first_state image args input = record {
+abbrev pub guest_at_start : Image → List (List ℕ) → List ℕ → Guest
+guest_at_start image args input = record {
   mem = first_memory image args;
   threads = thread_at image.entry (stack_pointer image args) ∷ [];
   first_break = break_of image.segments;

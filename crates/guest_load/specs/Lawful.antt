@@ -4,10 +4,10 @@ use Rattle.std.specs.List.{All}
 use Rattle.std.specs.List.Sorted.{IsStrictlyIncreasing}
 use Rattle.guest_load.specs.declared.thread.Thread.{Thread}
 use Rattle.guest_load.specs.declared.guest.Guest.TheInside.{Inside}
-use Rattle.guest_load.specs.State.{State}
+use Rattle.guest_load.specs.Guest.{Guest}
 
-abbrev pub state_of : Inside → State
-state_of g = record {
+abbrev pub guest_of : Inside → Guest
+guest_of g = record {
   mem = g.mem;
   threads = g.threads.items;
   first_break = g.first_break;
@@ -32,7 +32,7 @@ most_live = 1024
 abbrev pub most_made : ℕ
 most_made = 65535
 
-pub record IsLawful (guest : State) : Type 0 where
+pub record IsLawful (guest : Guest) : Type 0 where
   pub read_within : guest.place ≤ length guest.input
   pub made_few : guest.made ≤ most_made
   pub few_live : length guest.threads ≤ most_live

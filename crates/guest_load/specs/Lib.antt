@@ -4,5 +4,5 @@ pub mod First
 pub mod Lawful
 pub mod Segments
 pub mod Stack
-pub mod State
+pub mod Guest
 pub mod inner

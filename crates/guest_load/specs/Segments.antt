@@ -7,7 +7,7 @@ use Rattle.std.specs.List.{list_any}
 use Rattle.elf_read.specs.Image.{Image}
 use Rattle.elf_read.specs.Standard.{pf_r, pf_w, pf_x, has_flag}
 use Rattle.elf_read.specs.declared.program.Segment.{Segment}
-use Rattle.guest_mem.specs.Memory.{prot_read, prot_write, prot_exec, Cell, granted, in_range, count_below}
+use Rattle.guest_mem.specs.Memory.{prot_read, prot_write, prot_exec, Cell, granted_permission, in_range, count_below}
 use Rattle.guest_load.specs.Stack.{stack_start, stack_pages}
 
 -- ---- pages, by their numbers
@@ -59,7 +59,7 @@ segment_cell image a =
     if is_touched image.segments (a / 4096)
     then Some (record {
       byte = segment_byte image.bytes image.segments a;
-      permission = granted (page_permission image.segments (a / 4096));
+      permission = granted_permission (page_permission image.segments (a / 4096));
     })
     else None
 

@@ -8,7 +8,7 @@ use std::marker::Model;
 ///
 /// Of every guest it holds that `place` is at most the input's length, that at most 65,535 threads were made and at
 /// most 1,024 are live, by rising numbers from 1 to `made`, that each pc is a multiple of 4 and each x0 is 0, and that
-/// `first_break` is at most `now_break`, which is at most 0x40000000. Contracts see it as a `State`.
+/// `first_break` is at most `now_break`, which is at most 0x40000000. Contracts see the memory as its cells.
 #[derive(Debug, Drop)]
 pub struct Guest {
     pub mem: GuestMem,
@@ -29,16 +29,16 @@ pub struct Guest {
 }
 
 impl Model for Guest {
-    ghost use Rattle.guest_load.specs.State.{State};
-    ghost use Rattle.guest_load.specs.inner.Codes.{state_code};
+    ghost use Rattle.guest_load.specs.Guest.{Guest};
+    ghost use Rattle.guest_load.specs.inner.Codes.{guest_code};
 
-    ghost Value = { State };
+    ghost Value = { Guest };
 
-    ghost coded = { state_code };
+    ghost coded = { guest_code };
 
-    ghost use Rattle.guest_load.specs.Lawful.{state_of, IsLawful};
+    ghost use Rattle.guest_load.specs.Lawful.{guest_of, IsLawful};
 
-    ghost view = { state_of };
+    ghost view = { guest_of };
 
-    ghost invariant = { λ g. IsLawful (state_of g) };
+    ghost invariant = { λ g. IsLawful (guest_of g) };
 }

@@ -4,7 +4,7 @@ ghost use Rattle.std.specs.Prelude.{◌≡◌, ◌<◌, ◌≤◌, ◌↔◌, �
 ghost use Rattle.std.specs.List.{All};
 ghost use Rattle.guest_mem.specs.Memory.{page_limit};
 ghost use Rattle.guest_load.specs.Arguments.{NeedsTooMany};
-ghost use Rattle.guest_load.specs.First.{thread_at, first_state, HasItsBytes};
+ghost use Rattle.guest_load.specs.First.{thread_at, guest_at_start, HasItsBytes};
 ghost use Rattle.guest_load.specs.Lawful.{IsLawful};
 ghost use Rattle.guest_load.specs.Segments.{pages_of};
 ghost use Rattle.guest_load.specs.Stack.{IsInOrder, HoldsStack};
@@ -44,7 +44,7 @@ pub fn load(
     args: &[String],
     input: Vec<u8>,
 ) -> Result<Guest, GuestError>
-    ensures first { IfOk result (λ guest. guest ≡ first_state elf.now (map string_bytes args.now) input.items) }
+    ensures first { IfOk result (λ guest. guest ≡ guest_at_start elf.now (map string_bytes args.now) input.items) }
     ensures segments { IfOk result (λ guest. All (HasItsBytes elf.now.bytes guest.mem) elf.now.segments) }
     ensures stack { IfOk result (λ guest. HoldsStack elf.now (map string_bytes args.now) guest.mem) }
     ensures in_order { OnOk result (IsInOrder elf.now (map string_bytes args.now)) }

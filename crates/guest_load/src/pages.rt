@@ -3,7 +3,7 @@
 ghost use Rattle.std.specs.Prelude.{◌≡◌, ℕ, ◌+◌, ◌*◌, ◌^◌, ◌<◌, ◌≤◌, None, unwrap_or, length, slice_index_or, IfOk};
 ghost use Rattle.std.specs.List.{All};
 ghost use Rattle.guest_mem.specs.Memory.{page_limit, memory_of, page_count};
-ghost use Rattle.guest_load.specs.inner.Stages.{own_permission, permitted, page_plan, IsTable, table_cell};
+ghost use Rattle.guest_load.specs.inner.Stages.{segment_permission, permission_with, page_plan, IsTable, table_cell};
 
 use elf_read::Segment;
 use guest_mem::{EXECUTE, GuestMem, MapError, PAGE_BYTES, READ, WRITE};
@@ -11,7 +11,7 @@ use std::alloc::{AllocError, Global};
 
 /// The permission that a segment gives.
 fn permission(segment: &Segment) -> u8
-    ensures { result ≡ own_permission segment.now }
+    ensures { result ≡ segment_permission segment.now }
 {
     let read = if segment.is_readable() { READ } else { 0 };
     let write = if segment.is_writable() { WRITE } else { 0 };
@@ -23,7 +23,7 @@ fn permission(segment: &Segment) -> u8
 fn permit(table: &mut [Option<u8>], segment: &Segment)
     requires loaded { 0 < segment.now.mem_len }
     requires within { segment.now.addr + segment.now.mem_len ≤ length table.old * 4096 }
-    ensures { IsTable table.new (λ page. permitted segment.now page (slice_index_or table.old page None)) }
+    ensures { IsTable table.new (λ page. permission_with segment.now page (slice_index_or table.old page None)) }
 {
     let permission = permission(segment);
     let start = segment.addr as usize;

@@ -6,7 +6,7 @@ use Rattle.std.specs.Option.{option_map, option_and_then}
 use Rattle.std.specs.Int.{from_le_bytes, w16, w32}
 use Rattle.std.proofs.lemmas.Bool.{cases_Bool, cases_eq, cond-true, cond-false, eq-eqb, ne_eqb}
 use Rattle.std.proofs.lemmas.List.{drop_more}
-use Rattle.guest_mem.specs.Memory.{Memory, allows, may, byte_at, bytes_at, number_of, loaded, written, stored}
+use Rattle.guest_mem.specs.Memory.{Memory, allows, may, byte_at, bytes_at, number_of, load_at, write_at, store_at}
 use Rattle.guest_mem.specs.Memory.{SameElsewhere}
 use Rattle.guest_mem.specs.inner.Page.{PageValue, AreWhole, page_allows, written_where, cells, cell_in, memory_of_pages}
 use Rattle.guest_mem.specs.inner.Table.{Alters}
@@ -19,30 +19,30 @@ use Rattle.guest_mem.proofs.Spans.{may_read}
 -- ---- loads
 
 pub loaded_bytes : (m : Memory) (want q n v : ℕ) → may m want q n ≡ true → v ≡ number_of (bytes_at m q n)
-    → Some v ≡ loaded m want q n
-unfolding loaded
+    → Some v ≡ load_at m want q n
+unfolding load_at
 loaded_bytes m want q n v ok is = ap Some is ∙ sym (cond-true _ _ _ ok)
 
-pub loaded_refused : (m : Memory) (want q n : ℕ) → may m want q n ≡ false → None ≡ loaded m want q n
-unfolding loaded
+pub loaded_refused : (m : Memory) (want q n : ℕ) → may m want q n ≡ false → None ≡ load_at m want q n
+unfolding load_at
 loaded_refused m want q n refused = sym (cond-false _ _ _ refused)
 
 pub loaded-page : (pages : ℕ → Option PageValue) (m : Memory) (want q n v : ℕ) (page : PageValue) → AreWhole pages
     → memory_of_pages pages ≡ m → pages (q / 4096) ≡ Some page → allows want page.permission ≡ true → q < 2 ^ 32 → 0 < n
     → q % 4096 + n ≤ 4096
-    → v ≡ number_of (take n (drop (q % 4096) page.bytes)) → Some v ≡ loaded m want q n
+    → v ≡ number_of (take n (drop (q % 4096) page.bytes)) → Some v ≡ load_at m want q n
 loaded-page pages m want q n v page whole is there given below some fits value =
     loaded_bytes (memory_of_pages pages) want q n v
     (may-page pages want q n whole below some fits ∙ ap (page_allows want) there ∙ given)
     (value ∙ ap number_of (sym (bytes_at-page pages q n page there (whole (q / 4096) page there) below fits)))
-    ∙ ap (λ o. loaded o want q n) is
+    ∙ ap (λ o. load_at o want q n) is
 
 pub loaded-no_page : (pages : ℕ → Option PageValue) (m : Memory) (want q n : ℕ) → AreWhole pages
     → memory_of_pages pages ≡ m → page_allows want (pages (q / 4096)) ≡ false → q < 2 ^ 32 → 0 < n → q % 4096 + n ≤ 4096
-    → None ≡ loaded m want q n
+    → None ≡ load_at m want q n
 loaded-no_page pages m want q n whole is refused below some fits =
     loaded_refused (memory_of_pages pages) want q n (may-page pages want q n whole below some fits ∙ refused)
-    ∙ ap (λ o. loaded o want q n) is
+    ∙ ap (λ o. load_at o want q n) is
 
 pub number_of-one : (bytes : List ℕ) (i : ℕ) → i < length bytes → number_of (take 1 (drop i bytes)) ≡ get_or bytes i 0
 number_of-one bytes i h = ap (λ ys. number_of (take 1 ys)) (drop_more bytes i 0 h) ∙ (omega arith)
@@ -86,8 +86,8 @@ memory_of_pages-same old new same =
 pub store_page : (old new : ℕ → Option PageValue) (q : ℕ) (bs : List ℕ) → AreWhole old → q < 2 ^ 32 → 0 < length bs
     → q % 4096 + length bs ≤ 4096
     → Alters old new (q / 4096) (option_map (written_where 2 (q % 4096) bs) (old (q / 4096)))
-    → memory_of_pages new ≡ stored (memory_of_pages old) q bs
-unfolding stored
+    → memory_of_pages new ≡ store_at (memory_of_pages old) q bs
+unfolding store_at
 store_page old new q bs whole below some fits change =
     let page = may-page old 2 q (length bs) whole below some fits in
     elim (cases_Bool (page_allows 2 (old (q / 4096)))) [
@@ -97,38 +97,38 @@ store_page old new q bs whole below some fits change =
           ∙ sym (cond-false _ _ _ (page ∙ refused))
     ]
 
-pub stored_when : (m n : Memory) (a : ℕ) (bs : List ℕ) → may m 2 a (length bs) ≡ true → n ≡ written m a bs
-    → n ≡ stored m a bs
-unfolding stored
+pub stored_when : (m n : Memory) (a : ℕ) (bs : List ℕ) → may m 2 a (length bs) ≡ true → n ≡ write_at m a bs
+    → n ≡ store_at m a bs
+unfolding store_at
 stored_when m n a bs ok is = is ∙ sym (cond-true _ _ _ ok)
 
-pub stored_unless : (m n : Memory) (a : ℕ) (bs : List ℕ) → may m 2 a (length bs) ≡ false → n ≡ m → n ≡ stored m a bs
-unfolding stored
+pub stored_unless : (m n : Memory) (a : ℕ) (bs : List ℕ) → may m 2 a (length bs) ≡ false → n ≡ m → n ≡ store_at m a bs
+unfolding store_at
 stored_unless m n a bs refused is = is ∙ sym (cond-false _ _ _ refused)
 
-pub refused_same : (m n : Memory) (a : ℕ) (bs : List ℕ) → may m 2 a (length bs) ≡ false → n ≡ stored m a bs → n ≡ m
-unfolding stored
+pub refused_same : (m n : Memory) (a : ℕ) (bs : List ℕ) → may m 2 a (length bs) ≡ false → n ≡ store_at m a bs → n ≡ m
+unfolding store_at
 refused_same m n a bs refused is = is ∙ cond-false _ _ _ refused
 
 -- ---- laws
 
-pub elsewhere-stored : (m n : Memory) (a : ℕ) (bs : List ℕ) → n ≡ stored m a bs → SameElsewhere m n a (length bs)
-unfolding stored
+pub elsewhere-stored : (m n : Memory) (a : ℕ) (bs : List ℕ) → n ≡ store_at m a bs → SameElsewhere m n a (length bs)
+unfolding store_at
 elsewhere-stored m n a bs is want other width apart =
     elim (cases_Bool (may m 2 a (length bs))) [
-      | inl ok ↦ elsewhere-by m n (written m a bs) a (length bs) (is ∙ cond-true _ _ _ ok)
+      | inl ok ↦ elsewhere-by m n (write_at m a bs) a (length bs) (is ∙ cond-true _ _ _ ok)
           (elsewhere-written m a bs) want other width apart
-      | inr refused ↦ ap (λ o. loaded o want other width) (is ∙ cond-false _ _ _ refused)
+      | inr refused ↦ ap (λ o. load_at o want other width) (is ∙ cond-false _ _ _ refused)
     ]
 
 pub reads_back : (pages : ℕ → Option PageValue) (m n : Memory) (a : ℕ) (bs : List ℕ) → AreWhole pages
-    → memory_of_pages pages ≡ m → may m 2 a (length bs) ≡ true → n ≡ stored m a bs
-    → loaded n 1 a (length bs) ≡ Some (number_of bs)
-unfolding stored
+    → memory_of_pages pages ≡ m → may m 2 a (length bs) ≡ true → n ≡ store_at m a bs
+    → load_at n 1 a (length bs) ≡ Some (number_of bs)
+unfolding store_at
 reads_back pages m n a bs whole view ok is =
     let may_write : may (memory_of_pages pages) 2 a (length bs) ≡ true = ap (λ o. may o 2 a (length bs)) view ∙ ok in
     let readable : may m 1 a (length bs) ≡ true = ap (λ o. may o 1 a (length bs)) (sym view)
     ∙ may_read pages a (length bs) whole may_write in
-    ap (λ o. loaded o 1 a (length bs)) (is ∙ cond-true _ _ _ ok)
-    ∙ sym (loaded_bytes (written m a bs) 1 a (length bs) (number_of bs) (may-written m a bs 1 a (length bs) ∙ readable)
+    ap (λ o. load_at o 1 a (length bs)) (is ∙ cond-true _ _ _ ok)
+    ∙ sym (loaded_bytes (write_at m a bs) 1 a (length bs) (number_of bs) (may-written m a bs 1 a (length bs) ∙ readable)
     (ap number_of (sym (bytes_at-written m 2 a bs ok))))

@@ -6,60 +6,60 @@ use Rattle.std.specs.Option.{option_map}
 use Rattle.std.specs.FinMap as map
 use Rattle.std.proofs.lemmas.Bool.{cases_lt, cases_Bool, cond-true, cond-false, lt-ltb, le-ltb, and_left}
 use Rattle.std.proofs.lemmas.Bool.Decides.{nat_tests}
-use Rattle.guest_mem.specs.Memory.{Cell, Memory, in_range, changed, with_permission, granted, allows, cell_allows}
-use Rattle.guest_mem.specs.Memory.{cell_byte, allowed, may, byte_at, bytes_at, number_of, loaded, written, zeroed}
-use Rattle.guest_mem.specs.Memory.{unmapped, protected, SameElsewhere}
+use Rattle.guest_mem.specs.Memory.{Cell, Memory, in_range, change_at, with_permission, granted_permission, allows, cell_allows}
+use Rattle.guest_mem.specs.Memory.{cell_byte, allows_at, may, byte_at, bytes_at, number_of, load_at, write_at, zero_range}
+use Rattle.guest_mem.specs.Memory.{unmap_at, protect_at, SameElsewhere}
 use Rattle.guest_mem.proofs.Memories.{get-changed}
 use Rattle.guest_mem.proofs.Ranges.{may-same, may_at, may-from, bytes_at-same, allowed-below}
 
 -- ---- what may be done
 
 cell_allows-at : (m : Memory) (want q : ℕ) (c : Option Cell) → q < 2 ^ 32 → map.get m q ≡ c
-    → allowed m want q ≡ cell_allows want c
-unfolding allowed
+    → allows_at m want q ≡ cell_allows want c
+unfolding allows_at
 cell_allows-at m want q c h is = ap (λ b. b && cell_allows want (map.get m q)) (lt-ltb q (2 ^ 32) h)
     ∙ ap (cell_allows want) is
 
 allowed-changed : (m : Memory) (a n want q : ℕ) (f : ℕ → Option Cell → Option Cell) (b : Bool) → q < 2 ^ 32
     → (in_range a n q ≡ true → cell_allows want (f q (map.get m q)) ≡ b)
-    → allowed (changed m a n f) want q ≡ cond (in_range a n q) b (allowed m want q)
+    → allows_at (change_at m a n f) want q ≡ cond (in_range a n q) b (allows_at m want q)
 allowed-changed m a n want q f b h inside =
     elim (cases_Bool (in_range a n q)) [
-      | inl given ↦ cell_allows-at (changed m a n f) want q _ h (get-changed m a n f q h ∙ cond-true _ _ _ given)
+      | inl given ↦ cell_allows-at (change_at m a n f) want q _ h (get-changed m a n f q h ∙ cond-true _ _ _ given)
           ∙ inside given ∙ sym (cond-true _ _ _ given)
-      | inr out ↦ cell_allows-at (changed m a n f) want q _ h (get-changed m a n f q h ∙ cond-false _ _ _ out)
+      | inr out ↦ cell_allows-at (change_at m a n f) want q _ h (get-changed m a n f q h ∙ cond-false _ _ _ out)
           ∙ sym (cell_allows-at m want q _ h refl) ∙ sym (cond-false _ _ _ out)
     ]
 
 -- after zeros were mapped
-pub allowed-zeroed : (m : Memory) (a n permission want q : ℕ) → q < 2 ^ 32 → allowed (zeroed m a n permission) want q
-    ≡ cond (in_range a n q) (allows want (granted permission)) (allowed m want q)
-unfolding zeroed
+pub allowed-zeroed : (m : Memory) (a n permission want q : ℕ) → q < 2 ^ 32 → allows_at (zero_range m a n permission) want q
+    ≡ cond (in_range a n q) (allows want (granted_permission permission)) (allows_at m want q)
+unfolding zero_range
 allowed-zeroed m a n permission want q h =
-    allowed-changed m a n want q _ (allows want (granted permission)) h (λ _. refl)
+    allowed-changed m a n want q _ (allows want (granted_permission permission)) h (λ _. refl)
 
 -- after pages were taken away
 pub allowed-unmapped : (m : Memory) (a n want q : ℕ) → q < 2 ^ 32
-    → allowed (unmapped m a n) want q ≡ cond (in_range a n q) false (allowed m want q)
-unfolding unmapped
+    → allows_at (unmap_at m a n) want q ≡ cond (in_range a n q) false (allows_at m want q)
+unfolding unmap_at
 allowed-unmapped m a n want q h = allowed-changed m a n want q _ false h (λ _. refl)
 
 -- after mapped pages got another permission
-pub allowed-protected : (m : Memory) (a n permission want q : ℕ) → q < 2 ^ 32 → allowed m 0 q ≡ true
-    → allowed (protected m a n permission) want q ≡ cond (in_range a n q) (allows want (granted permission))
-    (allowed m want q)
-unfolding protected
-allowed-protected m a n permission want q h there = allowed-changed m a n want q _ (allows want (granted permission)) h
+pub allowed-protected : (m : Memory) (a n permission want q : ℕ) → q < 2 ^ 32 → allows_at m 0 q ≡ true
+    → allows_at (protect_at m a n permission) want q ≡ cond (in_range a n q) (allows want (granted_permission permission))
+    (allows_at m want q)
+unfolding protect_at
+allowed-protected m a n permission want q h there = allowed-changed m a n want q _ (allows want (granted_permission permission)) h
     (λ _. given (map.get m q) (sym (cell_allows-at m 0 q _ h refl) ∙ there))
   where
     given : (c : Option Cell) → cell_allows 0 c ≡ true
-        → cell_allows want (option_map (with_permission (granted permission)) c) ≡ allows want (granted permission)
+        → cell_allows want (option_map (with_permission (granted_permission permission)) c) ≡ allows want (granted_permission permission)
     given None there = cc
     given (Some c) there = refl
 
 -- a range of zeros may be used as its permission says
 pub may-zeroed : (m : Memory) (a n permission want b k : ℕ) → a + n ≤ 2 ^ 32 → a ≤ b → b + k ≤ a + n
-    → allows want (granted permission) ≡ true → may (zeroed m a n permission) want b k ≡ true
+    → allows want (granted_permission permission) ≡ true → may (zero_range m a n permission) want b k ≡ true
 may-zeroed m a n permission want b k fits from to given =
     may-from _ want b k (λ i h. let inside : in_range a n (b + i) ≡ true = grind (arith, nat_tests) in
     allowed-zeroed m a n permission want (b + i) (omega arith) ∙ cond-true _ _ _ inside ∙ given)
@@ -67,8 +67,8 @@ may-zeroed m a n permission want b k fits from to given =
 -- ---- loads apart from a change
 
 allowed-same : (m n : Memory) (want q : ℕ) → (q < 2 ^ 32 → map.get n q ≡ map.get m q)
-    → allowed n want q ≡ allowed m want q
-unfolding allowed
+    → allows_at n want q ≡ allows_at m want q
+unfolding allows_at
 allowed-same m n want q same =
     elim (cases_lt q (2 ^ 32)) [
       | inl h ↦ ap (λ c. nat_lt q (2 ^ 32) && cell_allows want c) (same h)
@@ -81,8 +81,8 @@ byte_at-same m n q same = ap cell_byte same
 
 loaded-same : (m n : Memory) (want a width : ℕ)
     → ((k : ℕ) → k < width → a + k < 2 ^ 32 → map.get n (a + k) ≡ map.get m (a + k))
-    → loaded n want a width ≡ loaded m want a width
-unfolding loaded
+    → load_at n want a width ≡ load_at m want a width
+unfolding load_at
 loaded-same m n want a width same =
     let usable = may-same m n want a width (λ k h. allowed-same m n want (a + k) (same k h)) in
     elim (cases_Bool (may m want a width)) [
@@ -94,31 +94,31 @@ loaded-same m n want a width same =
       | inr not_all ↦ cond-false _ _ _ (usable ∙ not_all) ∙ sym (cond-false _ _ _ not_all)
     ]
 
-elsewhere-changed : (m : Memory) (a n : ℕ) (f : ℕ → Option Cell → Option Cell) → SameElsewhere m (changed m a n f) a n
+elsewhere-changed : (m : Memory) (a n : ℕ) (f : ℕ → Option Cell → Option Cell) → SameElsewhere m (change_at m a n f) a n
 elsewhere-changed m a n f want other width apart =
-    loaded-same m (changed m a n f) want other width
+    loaded-same m (change_at m a n f) want other width
     (λ k h below. get-changed m a n f (other + k) below ∙ cond-false _ _ _ (outside other width k h apart))
   where
     outside : (other width k : ℕ) → k < width → (other + width ≤ a) ⊎ (a + n ≤ other) → in_range a n (other + k) ≡ false
     outside other width k h (inl below) = grind (arith, nat_tests)
     outside other width k h (inr above) = grind (arith, nat_tests)
 
-pub elsewhere-zeroed : (m : Memory) (a n permission : ℕ) → SameElsewhere m (zeroed m a n permission) a n
-unfolding zeroed
+pub elsewhere-zeroed : (m : Memory) (a n permission : ℕ) → SameElsewhere m (zero_range m a n permission) a n
+unfolding zero_range
 elsewhere-zeroed m a n permission = elsewhere-changed m a n _
 
-pub elsewhere-unmapped : (m : Memory) (a n : ℕ) → SameElsewhere m (unmapped m a n) a n
-unfolding unmapped
+pub elsewhere-unmapped : (m : Memory) (a n : ℕ) → SameElsewhere m (unmap_at m a n) a n
+unfolding unmap_at
 elsewhere-unmapped m a n = elsewhere-changed m a n _
 
-pub elsewhere-protected : (m : Memory) (a n permission : ℕ) → SameElsewhere m (protected m a n permission) a n
-unfolding protected
+pub elsewhere-protected : (m : Memory) (a n permission : ℕ) → SameElsewhere m (protect_at m a n permission) a n
+unfolding protect_at
 elsewhere-protected m a n permission = elsewhere-changed m a n _
 
-pub elsewhere-written : (m : Memory) (a : ℕ) (bs : List ℕ) → SameElsewhere m (written m a bs) a (length bs)
-unfolding written
+pub elsewhere-written : (m : Memory) (a : ℕ) (bs : List ℕ) → SameElsewhere m (write_at m a bs) a (length bs)
+unfolding write_at
 elsewhere-written m a bs = elsewhere-changed m a (length bs) _
 
 -- the memory that is another by an equation
 pub elsewhere-by : (m n o : Memory) (a width : ℕ) → n ≡ o → SameElsewhere m o a width → SameElsewhere m n a width
-elsewhere-by m n o a width is same want other k apart = ap (λ p. loaded p want other k) is ∙ same want other k apart
+elsewhere-by m n o a width is same want other k apart = ap (λ p. load_at p want other k) is ∙ same want other k apart

@@ -11,7 +11,7 @@ use Rattle.std.proofs.lemmas.Nat.{and_le_r}
 use Rattle.std.proofs.lemmas.Option.{same_Some}
 use Rattle.std.proofs.lemmas.List.{length-replicate}
 use Rattle.guest_mem.proofs.Permissions.{lawful_granted}
-use Rattle.guest_mem.specs.Memory.{Cell, Memory, memory_of, in_range, zeroed, allows, cell_allows, allowed, may}
+use Rattle.guest_mem.specs.Memory.{Cell, Memory, memory_of, in_range, zero_range, allows, cell_allows, allows_at, may}
 use Rattle.guest_mem.specs.Memory.{count_below, page_count, page_mapped, pages_mapped}
 use Rattle.guest_mem.specs.inner.Page.{PageValue, IsWhole, AreWhole, zero_page, zeros, protected_page, EachAllows}
 use Rattle.guest_mem.specs.inner.Page.{page_allows, cells, memory_of_pages}
@@ -73,12 +73,12 @@ whole-zero_page permission h = record { lawful = lawful_granted permission h; wh
 -- how many pages there would be after zeros were mapped
 pub count_zeroed : (d : Directory) (m : Memory) (a n permission : ℕ) → memory_of_pages (page_at d) ≡ m → a % 4096 ≡ 0
     → a + n * 4096 ≤ 2 ^ 32 → permission < 8
-    → page_count (zeroed m a (n * 4096) permission) ≡ page_total d + missing_from (page_at d) (a / 4096) n
+    → page_count (zero_range m a (n * 4096) permission) ≡ page_total d + missing_from (page_at d) (a / 4096) n
 unfolding page_total
 count_zeroed d m a n permission is aligned fits h =
     let start : a / 4096 * 4096 ≡ a = omega arith in
-    ap (λ o. page_count (zeroed o a (n * 4096) permission)) (sym is)
-    ∙ ap (λ b. page_count (zeroed (memory_of_pages (page_at d)) b (n * 4096) permission)) (sym start)
+    ap (λ o. page_count (zero_range o a (n * 4096) permission)) (sym is)
+    ∙ ap (λ b. page_count (zero_range (memory_of_pages (page_at d)) b (n * 4096) permission)) (sym start)
     ∙ ap page_count (sym (memory_of_pages-zeroed (page_at d) new (a / 4096) n permission (whole_pages d) (λ q. refl)))
     ∙ page_count-is new whole
     ∙ count_filled (page_at d) new (a / 4096) n (2 ^ 20) (zero_page permission) (λ q. refl) (omega arith)
@@ -152,14 +152,14 @@ pages_mapped-bytes pages a (suc n) b whole aligned fits is =
 
 -- what may be used in some way is mapped
 pub may_nothing : (m : Memory) (want a n : ℕ) → may m want a n ≡ true → may m 0 a n ≡ true
-unfolding allowed
+unfolding allows_at
 may_nothing m want a n ok = may-from m 0 a n (λ k h. weaker (a + k) (may_at m want a n ok k h))
   where
     mapped : (c : Option Cell) → cell_allows want c ≡ true → cell_allows 0 c ≡ true
     mapped None given = given
     mapped (Some c) given = allows_nothing c.permission
 
-    weaker : (q : ℕ) → allowed m want q ≡ true → allowed m 0 q ≡ true
+    weaker : (q : ℕ) → allows_at m want q ≡ true → allows_at m 0 q ≡ true
     weaker q given =
         let parts = and_parts (nat_lt q (2 ^ 32)) (cell_allows want (map.get m q)) given in
         and_from (nat_lt q (2 ^ 32)) (cell_allows 0 (map.get m q)) parts.0 (mapped (map.get m q) parts.1)

@@ -6,7 +6,7 @@ use Rattle.std.specs.Cmp.{nat_cmp_total}
 use Rattle.std.specs.FinMap as map
 use Rattle.std.proofs.lemmas.Bool.{cases_lt, cond-true, cond-false, lt-ltb, le-ltb}
 use Rattle.std.proofs.lemmas.Bool.Decides.{nat_tests}
-use Rattle.guest_mem.specs.Memory.{Cell, Memory, entry, memory_below, memory_of, in_range, changed}
+use Rattle.guest_mem.specs.Memory.{Cell, Memory, entry, memory_below, memory_of, in_range, change_at}
 
 -- one address more
 none_more : (n q : ℕ) (f : ℕ → Option Cell) (x : Option Cell) → f n ≡ None → x ≡ cond (nat_lt q n) (f q) None
@@ -49,13 +49,13 @@ memory_of-same f g same = map.same_map nat_cmp_total map.nat_cmp-IsAntisymmetric
     ])
 
 pub get-changed : (m : Memory) (a n : ℕ) (g : ℕ → Option Cell → Option Cell) (q : ℕ) → q < 2 ^ 32
-    → map.get (changed m a n g) q ≡ cond (in_range a n q) (g q (map.get m q)) (map.get m q)
-unfolding changed
+    → map.get (change_at m a n g) q ≡ cond (in_range a n q) (g q (map.get m q)) (map.get m q)
+unfolding change_at
 get-changed m a n g q h = get-memory_of _ q h
 
 -- the memory of cells that are those of f, changed from a on
 pub memory_of-changed : (f g : ℕ → Option Cell) (a n : ℕ) (h : ℕ → Option Cell → Option Cell)
-    → ((q : ℕ) → q < 2 ^ 32 → g q ≡ cond (in_range a n q) (h q (f q)) (f q)) → memory_of g ≡ changed (memory_of f) a n h
-unfolding changed
+    → ((q : ℕ) → q < 2 ^ 32 → g q ≡ cond (in_range a n q) (h q (f q)) (f q)) → memory_of g ≡ change_at (memory_of f) a n h
+unfolding change_at
 memory_of-changed f g a n h same =
     memory_of-same g _ (λ q l. same q l ∙ ap (λ c. cond (in_range a n q) (h q c) c) (sym (get-memory_of f q l)))

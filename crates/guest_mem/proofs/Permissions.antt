@@ -1,7 +1,7 @@
 -- Permissions below 8, in which to write is to read.
 use Rattle.std.proofs.Common.{◌≡◌, ℕ, zero, suc, ◌<◌, arith, refl, true}
 use Rattle.std.specs.Prelude.{IsTrue, bit_or}
-use Rattle.guest_mem.specs.Memory.{allows, granted}
+use Rattle.guest_mem.specs.Memory.{allows, granted_permission}
 use Rattle.guest_mem.specs.inner.Page.{is_granted}
 
 -- a permission below 8 that may be written is lawful once reading is added
@@ -29,7 +29,7 @@ read_where_written (suc (suc (suc (suc (suc (suc (suc zero))))))) b h w = refl
 read_where_written (suc (suc (suc (suc (suc (suc (suc (suc p)))))))) b h w = absurd (omega arith)
 
 -- and so is any other as it is given
-pub lawful_granted : (p : ℕ) → p < 8 → IsTrue (is_granted (granted p))
+pub lawful_granted : (p : ℕ) → p < 8 → IsTrue (is_granted (granted_permission p))
 lawful_granted zero h = refl
 lawful_granted (suc zero) h = refl
 lawful_granted (suc (suc zero)) h = refl

@@ -5,7 +5,7 @@ use Rattle.std.specs.Prelude.{Option, Some, None, is_some}
 use Rattle.std.specs.Option.{option_map}
 use Rattle.std.proofs.lemmas.Bool.{cases_eq, cond-true, cond-false, eq-eqb, ne_eqb}
 use Rattle.std.proofs.lemmas.List.{length-take, length-drop, drop-take}
-use Rattle.guest_mem.specs.Memory.{Memory, may, allowed, bytes_at, written}
+use Rattle.guest_mem.specs.Memory.{Memory, may, allows_at, bytes_at, write_at}
 use Rattle.guest_mem.specs.inner.Page.{PageValue, AreWhole, page_allows, written_where, memory_of_pages}
 use Rattle.guest_mem.specs.inner.Table.{Alters}
 use Rattle.guest_mem.proofs.Ranges.{may_at, allowed-written, allowed-below}
@@ -29,20 +29,20 @@ take_further xs i j h =
 
 -- the page of a byte that is mapped
 pub page_there : (pages : ℕ → Option PageValue) (m : Memory) (want q : ℕ) → AreWhole pages → memory_of_pages pages ≡ m
-    → allowed m want q ≡ true → page_allows want (pages (q / 4096)) ≡ true
+    → allows_at m want q ≡ true → page_allows want (pages (q / 4096)) ≡ true
 page_there pages m want q whole is ok =
-    let here : allowed (memory_of_pages pages) want q ≡ true = ap (λ n. allowed n want q) is ∙ ok in
+    let here : allows_at (memory_of_pages pages) want q ≡ true = ap (λ n. allows_at n want q) is ∙ ok in
     sym (allowed-page pages want q whole (allowed-below _ want q here)) ∙ here
 
 pub put_more : (first old new : ℕ → Option PageValue) (at : ℕ) (bs piece : List ℕ) (done end : ℕ) → AreWhole old
     → done < length bs → done ≤ end → end ≤ length bs → (at + done) % 4096 + (end - done) ≤ 4096
     → piece ≡ take (end - done) (drop done bs) → may (memory_of_pages first) 0 at (length bs) ≡ true
-    → memory_of_pages old ≡ written (memory_of_pages first) at (take done bs)
+    → memory_of_pages old ≡ write_at (memory_of_pages first) at (take done bs)
     → Alters old new ((at + done) / 4096)
     (option_map (written_where 0 ((at + done) % 4096) piece) (old ((at + done) / 4096)))
-    → memory_of_pages new ≡ written (memory_of_pages first) at (take end bs)
+    → memory_of_pages new ≡ write_at (memory_of_pages first) at (take end bs)
 put_more first old new at bs piece done end whole more order within fits is ok before change =
-    let allowed_here : allowed (written (memory_of_pages first) at (take done bs)) 0 (at + done) ≡ true
+    let allowed_here : allows_at (write_at (memory_of_pages first) at (take done bs)) 0 (at + done) ≡ true
     = allowed-written (memory_of_pages first) at (take done bs) 0 (at + done)
     ∙ may_at _ 0 at (length bs) ok done more in
     let below : at + done < 2 ^ 32 = allowed-below _ 0 (at + done) allowed_here in
@@ -50,10 +50,10 @@ put_more first old new at bs piece done end whole more order within fits is ok b
     let start : length (take done bs) ≡ done = simp length-take (omega arith) in
     memory_of_pages-written old new 0 (at + done) piece whole below (omega (arith, long))
     (page_there old _ 0 (at + done) whole before allowed_here) change
-    ∙ ap (λ m. written m (at + done) piece) before
-    ∙ ap (λ n. written (written (memory_of_pages first) at (take done bs)) (at + n) piece) (sym start)
+    ∙ ap (λ m. write_at m (at + done) piece) before
+    ∙ ap (λ n. write_at (write_at (memory_of_pages first) at (take done bs)) (at + n) piece) (sym start)
     ∙ written-append (memory_of_pages first) at (take done bs) piece
-    ∙ ap (written (memory_of_pages first) at) (ap (λ ys. take done bs ++ ys) is ∙ take_further bs done end order)
+    ∙ ap (write_at (memory_of_pages first) at) (ap (λ ys. take done bs ++ ys) is ∙ take_further bs done end order)
 
 -- a write takes no page and adds none
 pub same_pages : (old new : ℕ → Option PageValue) (i want place : ℕ) (bs : List ℕ)

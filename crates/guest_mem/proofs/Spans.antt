@@ -9,8 +9,8 @@ use Rattle.std.proofs.lemmas.Bool.{cases_lt, cond-false, le-ltb, and_left, cases
 use Rattle.std.proofs.lemmas.Bool.Decides.{nat_tests}
 use Rattle.std.proofs.lemmas.List.{ext_get_or, length-append, get_or_append_left, get_or-append_right}
 use Rattle.std.proofs.lemmas.Option.{option_and_then_some}
-use Rattle.guest_mem.specs.Memory.{Cell, Memory, in_range, changed, with_byte, cell_allows, allowed, may, byte_at}
-use Rattle.guest_mem.specs.Memory.{bytes_at, number_of, bytes_of, written}
+use Rattle.guest_mem.specs.Memory.{Cell, Memory, in_range, change_at, with_byte, cell_allows, allows_at, may, byte_at}
+use Rattle.guest_mem.specs.Memory.{bytes_at, number_of, bytes_of, write_at}
 use Rattle.guest_mem.specs.inner.Page.{PageValue, IsWhole, AreWhole, EachAllows, is_granted, page_allows}
 use Rattle.guest_mem.specs.inner.Page.{memory_of_pages}
 use Rattle.guest_mem.specs.inner.Table.{at_place}
@@ -31,8 +31,8 @@ whole_pages d p page is =
 
 -- ---- which ranges may be used
 
-allowed_past : (m : Memory) (want q : ℕ) → 2 ^ 32 ≤ q → allowed m want q ≡ false
-unfolding allowed
+allowed_past : (m : Memory) (want q : ℕ) → 2 ^ 32 ≤ q → allows_at m want q ≡ false
+unfolding allows_at
 allowed_past m want q h = and_left (nat_lt q (2 ^ 32)) (cell_allows want (map.get m q)) (le-ltb q (2 ^ 32) h)
 
 pub may_past : (m : Memory) (want a n : ℕ) → 0 < n → 2 ^ 32 < a + n → may m want a n ≡ false
@@ -141,10 +141,10 @@ twice a q xs ys c x e =
     chosen false e = refl
 
 pub written-append : (m : Memory) (a : ℕ) (xs ys : List ℕ)
-    → written (written m a xs) (a + length xs) ys ≡ written m a (xs ++ ys)
-unfolding written changed
+    → write_at (write_at m a xs) (a + length xs) ys ≡ write_at m a (xs ++ ys)
+unfolding write_at change_at
 written-append m a xs ys =
-    memory_of-same _ _ (λ q h. twice a q xs ys (map.get m q) (map.get (written m a xs) q) (get-written m a xs q h))
+    memory_of-same _ _ (λ q h. twice a q xs ys (map.get m q) (map.get (write_at m a xs) q) (get-written m a xs q h))
 
 -- ---- numbers
 

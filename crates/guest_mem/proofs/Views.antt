@@ -10,9 +10,9 @@ use Rattle.std.proofs.lemmas.Bool.Decides.{nat_tests}
 use Rattle.std.proofs.lemmas.List.{get_or-take, get_or-drop, length-take, length-drop, get_or_append_left}
 use Rattle.std.proofs.lemmas.List.{get_or-append_right, get_or-replicate, length-replicate, length-append}
 use Rattle.std.proofs.lemmas.Option.{slice_get-get_or}
-use Rattle.guest_mem.specs.Memory.{Cell, memory_of, in_range, changed, with_byte, with_permission, cell_allows}
-use Rattle.guest_mem.specs.Memory.{cell_byte, allows, granted, allowed, may, byte_at, bytes_at, written, zeroed}
-use Rattle.guest_mem.specs.Memory.{unmapped, protected}
+use Rattle.guest_mem.specs.Memory.{Cell, memory_of, in_range, change_at, with_byte, with_permission, cell_allows}
+use Rattle.guest_mem.specs.Memory.{cell_byte, allows, granted_permission, allows_at, may, byte_at, bytes_at, write_at, zero_range}
+use Rattle.guest_mem.specs.Memory.{unmap_at, protect_at}
 use Rattle.guest_mem.specs.inner.Page.{PageValue, IsWhole, AreWhole, patched, zeros, zero_page, written_where}
 use Rattle.guest_mem.specs.inner.Page.{protected_page, page_allows, cell_in, cells, memory_of_pages}
 use Rattle.guest_mem.specs.inner.Table.{Alters, AltersRange}
@@ -41,8 +41,8 @@ cell_allows-page pages want q None is whole = ap (cell_allows want) (cells_none 
 cell_allows-page pages want q (Some page) is whole = ap (cell_allows want) (cells_at pages q page is (whole page refl))
 
 pub allowed-page : (pages : ℕ → Option PageValue) (want q : ℕ) → AreWhole pages → q < 2 ^ 32
-    → allowed (memory_of_pages pages) want q ≡ page_allows want (pages (q / 4096))
-unfolding allowed memory_of_pages
+    → allows_at (memory_of_pages pages) want q ≡ page_allows want (pages (q / 4096))
+unfolding allows_at memory_of_pages
 allowed-page pages want q whole h =
     ap (λ b. b && cell_allows want (map.get (memory_of (cells pages)) q)) (lt-ltb q (2 ^ 32) h)
     ∙ ap (cell_allows want) (get-memory_of (cells pages) q h)
@@ -142,8 +142,8 @@ from_range a n q inside = leb-true a q (and_parts (nat_le a q) (nat_lt q (a + n)
 pub memory_of_pages-written : (old new : ℕ → Option PageValue) (want q : ℕ) (bs : List ℕ) → AreWhole old → q < 2 ^ 32
     → q % 4096 + length bs ≤ 4096 → page_allows want (old (q / 4096)) ≡ true
     → Alters old new (q / 4096) (option_map (written_where want (q % 4096) bs) (old (q / 4096)))
-    → memory_of_pages new ≡ written (memory_of_pages old) q bs
-unfolding memory_of_pages written
+    → memory_of_pages new ≡ write_at (memory_of_pages old) q bs
+unfolding memory_of_pages write_at
 memory_of_pages-written old new want q bs whole h fits given change =
     memory_of-changed (cells old) (cells new) q (length bs) (λ r. option_map (with_byte (slice_index bs (r - q))))
     (λ r l. elim (cases_eq (r / 4096) (q / 4096)) [
@@ -180,7 +180,7 @@ pub memory_of_pages-changed : (old new : ℕ → Option PageValue) (first n : �
     (g : Option Cell → Option Cell) → AreWhole old → AltersRange old new first n f
     → ((i : ℕ) (o : Option PageValue) → ForSome o IsWhole → i < 4096
     → option_and_then (cell_in i) (f o) ≡ g (option_and_then (cell_in i) o))
-    → memory_of_pages new ≡ changed (memory_of_pages old) (first * 4096) (n * 4096) (λ _. g)
+    → memory_of_pages new ≡ change_at (memory_of_pages old) (first * 4096) (n * 4096) (λ _. g)
 unfolding memory_of_pages
 memory_of_pages-changed old new first n f g whole change cell =
     memory_of-changed (cells old) (cells new) (first * 4096) (n * 4096) (λ _. g) (λ q h.
@@ -201,40 +201,40 @@ zero_at i h =
     slice_get-get_or (replicate 4096 zero) i 0 within ∙ ap Some (get_or-replicate 4096 i 0 0 h)
 
 zero_cell : (permission i : ℕ) → i < 4096
-    → cell_in i (zero_page permission) ≡ Some (record { byte = 0; permission = granted permission })
-zero_cell permission i h = ap (option_map (λ b. record { byte = b; permission = granted permission })) (zero_at i h)
+    → cell_in i (zero_page permission) ≡ Some (record { byte = 0; permission = granted_permission permission })
+zero_cell permission i h = ap (option_map (λ b. record { byte = b; permission = granted_permission permission })) (zero_at i h)
 
 pub memory_of_pages-zeroed : (old new : ℕ → Option PageValue) (first n permission : ℕ) → AreWhole old
     → AltersRange old new first n (λ _. Some (zero_page permission))
-    → memory_of_pages new ≡ zeroed (memory_of_pages old) (first * 4096) (n * 4096) permission
-unfolding zeroed
+    → memory_of_pages new ≡ zero_range (memory_of_pages old) (first * 4096) (n * 4096) permission
+unfolding zero_range
 memory_of_pages-zeroed old new first n permission whole change =
     memory_of_pages-changed old new first n (λ _. Some (zero_page permission)) _ whole change
     (λ i o is h. zero_cell permission i h)
 
 pub memory_of_pages-unmapped : (old new : ℕ → Option PageValue) (first n : ℕ) → AreWhole old
     → AltersRange old new first n (λ _. None)
-    → memory_of_pages new ≡ unmapped (memory_of_pages old) (first * 4096) (n * 4096)
-unfolding unmapped
+    → memory_of_pages new ≡ unmap_at (memory_of_pages old) (first * 4096) (n * 4096)
+unfolding unmap_at
 memory_of_pages-unmapped old new first n whole change =
     memory_of_pages-changed old new first n (λ _. None) _ whole change (λ i o is h. refl)
 
 pub memory_of_pages-protected : (old new : ℕ → Option PageValue) (first n permission : ℕ) → AreWhole old
     → AltersRange old new first n (option_map (protected_page permission))
-    → memory_of_pages new ≡ protected (memory_of_pages old) (first * 4096) (n * 4096) permission
-unfolding protected
+    → memory_of_pages new ≡ protect_at (memory_of_pages old) (first * 4096) (n * 4096) permission
+unfolding protect_at
 memory_of_pages-protected old new first n permission whole change =
     memory_of_pages-changed old new first n (option_map (protected_page permission)) _ whole change
     (protected_cell permission)
   where
     protected_cell : (permission i : ℕ) (o : Option PageValue) → ForSome o IsWhole → i < 4096
         → option_and_then (cell_in i) (option_map (protected_page permission) o)
-        ≡ option_map (with_permission (granted permission)) (option_and_then (cell_in i) o)
+        ≡ option_map (with_permission (granted_permission permission)) (option_and_then (cell_in i) o)
     protected_cell permission i None is h = refl
     protected_cell permission i (Some page) is h = twice (slice_get page.bytes i)
       where
-        twice : (o : Option ℕ) → option_map (λ b. record { byte = b; permission = granted permission }) o
-            ≡ option_map (with_permission (granted permission))
+        twice : (o : Option ℕ) → option_map (λ b. record { byte = b; permission = granted_permission permission }) o
+            ≡ option_map (with_permission (granted_permission permission))
             (option_map (λ b. record { byte = b; permission = page.permission }) o)
         twice None = refl
         twice (Some b) = refl

@@ -1,17 +1,17 @@
 -- The guest's memory: a finite map from addresses to a byte and a permission. An address that it lacks is not mapped.
 -- Numbers are little-endian, and no address needs to be aligned (RISC-V unprivileged manual, loads and stores).
 --     prot_read, prot_write, prot_exec     the permissions' numbers, and page_limit the most pages
---     granted p               the permission p with reading added where it has writing
---     allowed m want a        whether a lies below 2 ^ 32 and its byte is mapped with all bits of want
+--     granted_permission p               the permission p with reading added where it has writing
+--     allows_at m want a        whether a lies below 2 ^ 32 and its byte is mapped with all bits of want
 --     may m want a n          whether each of the n bytes from a on is
 --     byte_at m a, bytes_at m a n      the byte at a, and the n bytes from a on
---     loaded m want a n       the number that they are, where each may be used so
+--     load_at m want a n       the number that they are, where each may be used so
 --     bytes_of n v, number_of bs      a number's n lowest bytes, and the number of bytes
---     written m a bs          the memory with the bytes bs from a on
---     stored m a bs           the same where each of these places may be written, else m
---     zeroed m a n p          the memory after the n bytes from a on were mapped as zeros
---     unmapped m a n          after they were taken away
---     protected m a n p       after they got another permission
+--     write_at m a bs          the memory with the bytes bs from a on
+--     store_at m a bs           the same where each of these places may be written, else m
+--     zero_range m a n p          the memory after the n bytes from a on were mapped as zeros
+--     unmap_at m a n          after they were taken away
+--     protect_at m a n p       after they got another permission
 --     page_count m            how many pages are mapped
 --     pages_mapped m a n      whether each of the n pages from a on is
 --     SameElsewhere m n a k   whether a load apart from the k bytes from a on gives the same in both memories
@@ -51,8 +51,8 @@ abbrev pub Memory : Type 0
 Memory = map.FinMap nat_cmp Cell
 
 -- what a permission gives: to write is to read as well
-abbrev pub granted : ℕ → ℕ
-granted permission = if bit_and permission prot_write == prot_write then bit_or permission prot_read else permission
+abbrev pub granted_permission : ℕ → ℕ
+granted_permission permission = if bit_and permission prot_write == prot_write then bit_or permission prot_read else permission
 
 -- whether a permission has all bits of the one that is wanted
 abbrev pub allows : ℕ → ℕ → Bool
@@ -78,8 +78,8 @@ abbrev pub in_range : ℕ → ℕ → ℕ → Bool
 in_range a n q = nat_le a q && nat_lt q (a + n)
 
 -- the memory with f q c in place of the cell c at each q of the n addresses from a on
-unfoldable pub changed : Memory → ℕ → ℕ → (ℕ → Option Cell → Option Cell) → Memory
-changed m a n f = memory_of (λ q. if in_range a n q then f q (map.get m q) else map.get m q)
+unfoldable pub change_at : Memory → ℕ → ℕ → (ℕ → Option Cell → Option Cell) → Memory
+change_at m a n f = memory_of (λ q. if in_range a n q then f q (map.get m q) else map.get m q)
 
 abbrev pub with_byte : ℕ → Cell → Cell
 with_byte byte c = record { byte = byte; permission = c.permission }
@@ -97,12 +97,12 @@ cell_allows want cell = option_map_or (λ c. allows want c.permission) cell fals
 abbrev pub cell_byte : Option Cell → ℕ
 cell_byte cell = option_map_or (λ c. c.byte) cell 0
 
-unfoldable pub allowed : Memory → ℕ → ℕ → Bool
-allowed m want a = nat_lt a (2 ^ 32) && cell_allows want (map.get m a)
+unfoldable pub allows_at : Memory → ℕ → ℕ → Bool
+allows_at m want a = nat_lt a (2 ^ 32) && cell_allows want (map.get m a)
 
 unfoldable pub may : Memory → ℕ → ℕ → ℕ → Bool
 may m want a zero = true
-may m want a (suc n) = allowed m want a && may m want (a + 1) n
+may m want a (suc n) = allows_at m want a && may m want (a + 1) n
 
 -- ---- bytes and numbers
 
@@ -123,30 +123,30 @@ abbrev pub bytes_of : ℕ → ℕ → List ℕ
 bytes_of zero v = []
 bytes_of (suc n) v = v % 256 ∷ bytes_of n (v / 256)
 
-unfoldable pub loaded : Memory → ℕ → ℕ → ℕ → Option ℕ
-loaded m want a n = if may m want a n then Some (number_of (bytes_at m a n)) else None
+unfoldable pub load_at : Memory → ℕ → ℕ → ℕ → Option ℕ
+load_at m want a n = if may m want a n then Some (number_of (bytes_at m a n)) else None
 
-unfoldable pub written : Memory → ℕ → List ℕ → Memory
-written m a bs = changed m a (length bs) (λ q. option_map (with_byte (slice_index bs (q - a))))
+unfoldable pub write_at : Memory → ℕ → List ℕ → Memory
+write_at m a bs = change_at m a (length bs) (λ q. option_map (with_byte (slice_index bs (q - a))))
 
-unfoldable pub stored : Memory → ℕ → List ℕ → Memory
-stored m a bs = if may m prot_write a (length bs) then written m a bs else m
+unfoldable pub store_at : Memory → ℕ → List ℕ → Memory
+store_at m a bs = if may m prot_write a (length bs) then write_at m a bs else m
 
 -- what a load gives at any place that lies apart from the n bytes from a on is the same in both memories
 abbrev pub SameElsewhere : Memory → Memory → ℕ → ℕ → Type 0
 SameElsewhere old new a n = (want other width : ℕ) → (other + width ≤ a) ⊎ (a + n ≤ other)
-    → loaded new want other width ≡ loaded old want other width
+    → load_at new want other width ≡ load_at old want other width
 
 -- ---- pages
 
-unfoldable pub zeroed : Memory → ℕ → ℕ → ℕ → Memory
-zeroed m a n permission = changed m a n (λ _ _. Some (record { byte = 0; permission = granted permission }))
+unfoldable pub zero_range : Memory → ℕ → ℕ → ℕ → Memory
+zero_range m a n permission = change_at m a n (λ _ _. Some (record { byte = 0; permission = granted_permission permission }))
 
-unfoldable pub unmapped : Memory → ℕ → ℕ → Memory
-unmapped m a n = changed m a n (λ _ _. None)
+unfoldable pub unmap_at : Memory → ℕ → ℕ → Memory
+unmap_at m a n = change_at m a n (λ _ _. None)
 
-unfoldable pub protected : Memory → ℕ → ℕ → ℕ → Memory
-protected m a n permission = changed m a n (λ _. option_map (with_permission (granted permission)))
+unfoldable pub protect_at : Memory → ℕ → ℕ → ℕ → Memory
+protect_at m a n permission = change_at m a n (λ _. option_map (with_permission (granted_permission permission)))
 
 -- whether a page is mapped, by its first address
 abbrev pub page_mapped : Memory → ℕ → Bool

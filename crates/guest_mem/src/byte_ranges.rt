@@ -1,7 +1,7 @@
 //! Ranges of bytes over the pages of a directory.
 
 ghost use Rattle.std.specs.Prelude.{◌≡◌, ◌+◌, ◌≤◌, ◌<◌, ◌^◌, ◌++◌, ℕ, IsTrue, OnErr, OnOk, length, is_some};
-ghost use Rattle.guest_mem.specs.Memory.{prot_write, may, bytes_at, written, stored};
+ghost use Rattle.guest_mem.specs.Memory.{prot_write, may, bytes_at, write_at, store_at};
 ghost use Rattle.guest_mem.specs.inner.Page.{memory_of_pages};
 ghost use Rattle.guest_mem.specs.inner.Directory.{page_at};
 
@@ -32,7 +32,7 @@ impl Directory {
     /// Puts bytes from `at` on, all of them mapped, whatever their permission.
     pub fn put_bytes(&mut self, at: usize, bytes: &[u8])
         requires { IsTrue (may (memory_of_pages (page_at self.old)) 0 at (length bytes.now)) }
-        ensures after { memory_of_pages (page_at self.new) ≡ written (memory_of_pages (page_at self.old)) at bytes.now }
+        ensures after { memory_of_pages (page_at self.new) ≡ write_at (memory_of_pages (page_at self.old)) at bytes.now }
         ensures pages { (p : ℕ) → is_some (page_at self.new p) ≡ is_some (page_at self.old p) }
     {
         let mut done = 0;
@@ -71,7 +71,7 @@ impl Directory {
     pub fn store(&mut self, at: usize, bytes: &[u8]) -> bool
         requires { at < 2 ^ 32 }
         ensures allowed { result ≡ may (memory_of_pages (page_at self.old)) prot_write at (length bytes.now) }
-        ensures after { memory_of_pages (page_at self.new) ≡ stored (memory_of_pages (page_at self.old)) at bytes.now }
+        ensures after { memory_of_pages (page_at self.new) ≡ store_at (memory_of_pages (page_at self.old)) at bytes.now }
         ensures pages { (p : ℕ) → is_some (page_at self.new p) ≡ is_some (page_at self.old p) }
     {
         let place = at % PAGE_BYTES;
@@ -86,7 +86,7 @@ impl Directory {
     fn store_across(&mut self, at: usize, bytes: &[u8]) -> bool
         requires { at < 2 ^ 32 }
         ensures allowed { result ≡ may (memory_of_pages (page_at self.old)) prot_write at (length bytes.now) }
-        ensures after { memory_of_pages (page_at self.new) ≡ stored (memory_of_pages (page_at self.old)) at bytes.now }
+        ensures after { memory_of_pages (page_at self.new) ≡ store_at (memory_of_pages (page_at self.old)) at bytes.now }
         ensures pages { (p : ℕ) → is_some (page_at self.new p) ≡ is_some (page_at self.old p) }
     {
         if !self.may(at, bytes.len(), WRITE) {

@@ -4,8 +4,8 @@ ghost use Rattle.std.specs.Prelude.{◌≡◌, ◌+◌, ◌*◌, ◌/◌, ◌%�
 ghost use Rattle.std.specs.Prelude.{OnOk, OnErr, IfNone, IfSome, Some, length, is_ok, true, false};
 ghost use Rattle.std.specs.Result.{IsOk, result_ok};
 ghost use Rattle.std.specs.FinMap as map;
-ghost use Rattle.guest_mem.specs.Memory.{prot_read, prot_write, prot_exec, page_limit, allowed, may, byte_at, bytes_at};
-ghost use Rattle.guest_mem.specs.Memory.{bytes_of, number_of, loaded, written, stored, zeroed, unmapped, protected};
+ghost use Rattle.guest_mem.specs.Memory.{prot_read, prot_write, prot_exec, page_limit, allows_at, may, byte_at, bytes_at};
+ghost use Rattle.guest_mem.specs.Memory.{bytes_of, number_of, load_at, write_at, store_at, zero_range, unmap_at, protect_at};
 ghost use Rattle.guest_mem.specs.Memory.{page_count, page_mapped, pages_mapped, SameElsewhere};
 
 use crate::directory::{Directory, fresh_pages};
@@ -125,7 +125,7 @@ impl GuestMem {
     /// Whether each of `len` bytes from `addr` on lies below 2^32 and is mapped with all bits of `perm`.
     pub fn may(&self, addr: u32, len: u32, perm: u8) -> bool
         ensures value { result ≡ may self.now perm addr len }
-        ensures each { IsTrue result ↔ ((k : ℕ) → k < len → IsTrue (allowed self.now perm (addr + k))) }
+        ensures each { IsTrue result ↔ ((k : ℕ) → k < len → IsTrue (allows_at self.now perm (addr + k))) }
     {
         self.directory.may(addr as usize, len as usize, perm)
     }
@@ -153,11 +153,11 @@ impl GuestMem {
         requires aligned { first % 4096 ≡ 0 }
         requires within { first + pages * 4096 ≤ 2 ^ 32 }
         requires permission { perm < 8 }
-        ensures ok { OnOk result (self.new ≡ zeroed self.old first (pages * 4096) perm) }
+        ensures ok { OnOk result (self.new ≡ zero_range self.old first (pages * 4096) perm) }
         ensures err { OnErr result (self.new ≡ self.old) }
         ensures elsewhere { SameElsewhere self.old self.new first (pages * 4096) }
         ensures full { (result ≡ Err MapError.Full)
-            ↔ (page_limit < page_count (zeroed self.old first (pages * 4096) perm)) }
+            ↔ (page_limit < page_count (zero_range self.old first (pages * 4096) perm)) }
     {
         let page = first as usize / PAGE_BYTES;
         let count = pages as usize;
@@ -176,7 +176,7 @@ impl GuestMem {
     pub fn unmap(&mut self, first: u32, pages: u32)
         requires aligned { first % 4096 ≡ 0 }
         requires within { first + pages * 4096 ≤ 2 ^ 32 }
-        ensures after { self.new ≡ unmapped self.old first (pages * 4096) }
+        ensures after { self.new ≡ unmap_at self.old first (pages * 4096) }
         ensures elsewhere { SameElsewhere self.old self.new first (pages * 4096) }
         ensures none { pages ≡ 0 → self.new ≡ self.old }
     {
@@ -191,7 +191,7 @@ impl GuestMem {
         requires within { first + pages * 4096 ≤ 2 ^ 32 }
         requires permission { perm < 8 }
         requires mapped { IsTrue (pages_mapped self.old first pages) }
-        ensures after { self.new ≡ protected self.old first (pages * 4096) perm }
+        ensures after { self.new ≡ protect_at self.old first (pages * 4096) perm }
         ensures elsewhere { SameElsewhere self.old self.new first (pages * 4096) }
         ensures none { pages ≡ 0 → self.new ≡ self.old }
     {
@@ -202,7 +202,7 @@ impl GuestMem {
     /// The byte at an address; `Access` where it may not be read.
     #[inline(always)]
     pub fn load8(&self, addr: u32) -> Result<u32, Access>
-        ensures value { result_ok result ≡ loaded self.now prot_read addr 1 }
+        ensures value { result_ok result ≡ load_at self.now prot_read addr 1 }
         ensures byte { IfOk result (λ value. value < 2 ^ 8) }
     {
         match self
@@ -217,7 +217,7 @@ impl GuestMem {
     /// The number of the two bytes from an address on; `Access` where one may not be read.
     #[inline(always)]
     pub fn load16(&self, addr: u32) -> Result<u32, Access>
-        ensures value { result_ok result ≡ loaded self.now prot_read addr 2 }
+        ensures value { result_ok result ≡ load_at self.now prot_read addr 2 }
         ensures half { IfOk result (λ value. value < 2 ^ 16) }
     {
         let place = addr as usize % PAGE_BYTES;
@@ -236,7 +236,7 @@ impl GuestMem {
     /// The number of the four bytes from an address on; `Access` where one may not be read.
     #[inline(always)]
     pub fn load32(&self, addr: u32) -> Result<u32, Access>
-        ensures { result_ok result ≡ loaded self.now prot_read addr 4 }
+        ensures { result_ok result ≡ load_at self.now prot_read addr 4 }
     {
         self.word(addr, READ)
     }
@@ -244,7 +244,7 @@ impl GuestMem {
     /// The instruction word of the four bytes from an address on; `Access` where one may not be executed.
     #[inline(always)]
     pub fn fetch(&self, pc: u32) -> Result<u32, Access>
-        ensures { result_ok result ≡ loaded self.now prot_exec pc 4 }
+        ensures { result_ok result ≡ load_at self.now prot_exec pc 4 }
     {
         self.word(pc, EXECUTE)
     }
@@ -253,9 +253,9 @@ impl GuestMem {
     #[inline(always)]
     pub fn store8(&mut self, addr: u32, value: u32) -> Result<(), Access>
         ensures allowed { is_ok result ≡ may self.old prot_write addr 1 }
-        ensures after { self.new ≡ stored self.old addr (bytes_of 1 value) }
+        ensures after { self.new ≡ store_at self.old addr (bytes_of 1 value) }
         ensures refused { OnErr result (self.new ≡ self.old) }
-        ensures reads_back { OnOk result (loaded self.new prot_read addr 1 ≡ Some (value % 256)) }
+        ensures reads_back { OnOk result (load_at self.new prot_read addr 1 ≡ Some (value % 256)) }
         ensures elsewhere { SameElsewhere self.old self.new addr 1 }
     {
         self.store(addr, &[(value % 0x100) as u8])
@@ -266,9 +266,9 @@ impl GuestMem {
     #[inline(always)]
     pub fn store16(&mut self, addr: u32, value: u32) -> Result<(), Access>
         ensures allowed { is_ok result ≡ may self.old prot_write addr 2 }
-        ensures after { self.new ≡ stored self.old addr (bytes_of 2 value) }
+        ensures after { self.new ≡ store_at self.old addr (bytes_of 2 value) }
         ensures refused { OnErr result (self.new ≡ self.old) }
-        ensures reads_back { OnOk result (loaded self.new prot_read addr 2 ≡ Some (value % 65536)) }
+        ensures reads_back { OnOk result (load_at self.new prot_read addr 2 ≡ Some (value % 65536)) }
         ensures elsewhere { SameElsewhere self.old self.new addr 2 }
     {
         self.store(addr, &((value % 0x1_0000) as u16).to_le_bytes())
@@ -280,9 +280,9 @@ impl GuestMem {
     #[inline]
     pub fn store32(&mut self, addr: u32, value: u32) -> Result<(), Access>
         ensures allowed { is_ok result ≡ may self.old prot_write addr 4 }
-        ensures after { self.new ≡ stored self.old addr (bytes_of 4 value) }
+        ensures after { self.new ≡ store_at self.old addr (bytes_of 4 value) }
         ensures refused { OnErr result (self.new ≡ self.old) }
-        ensures reads_back { OnOk result (loaded self.new prot_read addr 4 ≡ Some value) }
+        ensures reads_back { OnOk result (load_at self.new prot_read addr 4 ≡ Some value) }
         ensures elsewhere { SameElsewhere self.old self.new addr 4 }
     {
         self.store(addr, &value.to_le_bytes())
@@ -292,7 +292,7 @@ impl GuestMem {
     /// written.
     pub fn copy_in(&mut self, addr: u32, bytes: &[u8]) -> Result<(), Access>
         ensures allowed { is_ok result ≡ may self.old prot_write addr (length bytes.now) }
-        ensures after { self.new ≡ stored self.old addr bytes.now }
+        ensures after { self.new ≡ store_at self.old addr bytes.now }
         ensures refused { OnErr result (self.new ≡ self.old) }
         ensures elsewhere { SameElsewhere self.old self.new addr (length bytes.now) }
     {
@@ -302,7 +302,7 @@ impl GuestMem {
     /// Puts bytes from an address on, all of them mapped, whatever their permission.
     pub fn put_raw(&mut self, addr: u32, bytes: &[u8])
         requires { IsTrue (may self.old 0 addr (length bytes.now)) }
-        ensures after { self.new ≡ written self.old addr bytes.now }
+        ensures after { self.new ≡ write_at self.old addr bytes.now }
         ensures elsewhere { SameElsewhere self.old self.new addr (length bytes.now) }
     {
         self.directory.put_bytes(addr as usize, bytes);
@@ -311,7 +311,7 @@ impl GuestMem {
     /// The word at an address, all of whose bytes allow what is wanted.
     #[inline(always)]
     fn word(&self, addr: u32, want: u8) -> Result<u32, Access>
-        ensures { result_ok result ≡ loaded self.now want addr 4 }
+        ensures { result_ok result ≡ load_at self.now want addr 4 }
     {
         let place = addr as usize % PAGE_BYTES;
         if place > PAGE_BYTES - 4 {
@@ -329,7 +329,7 @@ impl GuestMem {
     /// `word` where the bytes lie on two pages.
     #[cold]
     fn word_across(&self, addr: u32, want: u8) -> Result<u32, Access>
-        ensures { result_ok result ≡ loaded self.now want addr 4 }
+        ensures { result_ok result ≡ load_at self.now want addr 4 }
     {
         if !self.may(addr, 4, want) {
             return Err(Access);
@@ -345,7 +345,7 @@ impl GuestMem {
     /// `load16` where the bytes lie on two pages.
     #[cold]
     fn half_across(&self, addr: u32) -> Result<u32, Access>
-        ensures value { result_ok result ≡ loaded self.now prot_read addr 2 }
+        ensures value { result_ok result ≡ load_at self.now prot_read addr 2 }
         ensures half { IfOk result (λ value. value < 2 ^ 16) }
     {
         if !self.may(addr, 2, READ) {
@@ -369,9 +369,9 @@ impl GuestMem {
     #[inline(always)]
     fn store(&mut self, addr: u32, bytes: &[u8]) -> Result<(), Access>
         ensures allowed { is_ok result ≡ may self.old prot_write addr (length bytes.now) }
-        ensures after { self.new ≡ stored self.old addr bytes.now }
+        ensures after { self.new ≡ store_at self.old addr bytes.now }
         ensures refused { OnErr result (self.new ≡ self.old) }
-        ensures reads_back { OnOk result (loaded self.new prot_read addr (length bytes.now)
+        ensures reads_back { OnOk result (load_at self.new prot_read addr (length bytes.now)
             ≡ Some (number_of bytes.now)) }
         ensures elsewhere { SameElsewhere self.old self.new addr (length bytes.now) }
     {

@@ -1,7 +1,7 @@
 //! One page of the guest's memory.
 
 ghost use Rattle.std.specs.Prelude.{◌≡◌, ◌+◌, ◌≤◌, ◌<◌, ◌-◌, length, take, drop, slice_index, IfOk, IsTrue};
-ghost use Rattle.guest_mem.specs.Memory.{allows, granted, number_of};
+ghost use Rattle.guest_mem.specs.Memory.{allows, granted_permission, number_of};
 ghost use Rattle.guest_mem.specs.inner.Page.{IsWhole, is_granted, zero_page, written_where, protected_page};
 
 use std::alloc::{AllocError, Global};
@@ -18,9 +18,9 @@ pub const WRITE: u8 = 2;
 pub const EXECUTE: u8 = 4;
 
 /// The permission with reading added where it has writing.
-pub fn granted(permission: u8) -> u8
+pub fn granted_permission(permission: u8) -> u8
     requires { permission < 8 }
-    ensures value { result ≡ granted permission }
+    ensures value { result ≡ granted_permission permission }
     ensures lawful { IsTrue (is_granted result) }
 {
     if permission & WRITE == WRITE {
@@ -56,7 +56,7 @@ impl Page {
         ensures whole { IfOk result IsWhole }
     {
         let bytes = vec![in alloc; 0u8; PAGE_BYTES]?;
-        let permission = granted(permission);
+        let permission = granted_permission(permission);
         Ok(Page { permission, bytes })
     }
 
@@ -132,6 +132,6 @@ impl Page {
         ensures after { self.new ≡ protected_page permission self.old }
         ensures whole { IsWhole self.new }
     {
-        self.permission = granted(permission);
+        self.permission = granted_permission(permission);
     }
 }

@@ -11,21 +11,21 @@ use Rattle.event_costs.specs.declared.numbers.ThreadNo.{ThreadNo}
 use Rattle.event_costs.specs.declared.outcome.End.TheVariants.{UnsupportedCall}
 use Rattle.guest_load.specs.declared.thread.Thread.{Thread}
 use Rattle.guest_futex.specs.Waits.{times_waiting}
-use Rattle.guest_sys.specs.Sys.{Sys, times_live}
-use Rattle.guest_sys.specs.Laws.{times_in, waiting, made, ended, IsBalanced, ChangesNothing}
+use Rattle.guest_sys.specs.Kernel.{Kernel, times_live}
+use Rattle.guest_sys.specs.Laws.{times_in, waiters_by, spawned_by, gone_by, IsBalanced, ChangesNothing}
 use Rattle.guest_sys.specs.CallRow.{call_row, caller_of}
 use Rattle.guest_sys.specs.declared.caller.Caller.{Caller}
 use Rattle.guest_sys.specs.declared.effect.Act.{Act}
 use Rattle.guest_sys.specs.declared.effect.Act.TheVariants as act
 use Rattle.guest_sys.specs.declared.effect.Effect.{Effect}
 use Rattle.guest_sys.proofs.BalanceLemmas.{times_live-cons}
-use Rattle.guest_sched.specs.declared.engine.Engine.{Engine}
+use Rattle.guest_sched.specs.declared.engine.Engine.{Engine as EngineFields}
 use Rattle.guest_sched.specs.declared.turns.Fate.{Fate}
 use Rattle.guest_sched.specs.declared.turns.Fate.TheVariants as fate
-use Rattle.guest_sched.specs.Line.{Line, entered, passed}
-use Rattle.guest_sched.specs.Whole.{Whole, first_of, runner}
+use Rattle.guest_sched.specs.RunQueue.{RunQueue, with_threads, after_step}
+use Rattle.guest_sched.specs.Engine.{Engine, first_of, runner}
 use Rattle.guest_sched.specs.Step.{by_row, call_step, fate_of, signal_of, unless_killed}
-use Rattle.guest_sched.specs.inner.Sound.{IsLively, whole_of}
+use Rattle.guest_sched.specs.inner.Sound.{IsLively, engine_of}
 use Rattle.guest_sched.proofs.PlaceLemmas.{nowhere, rising_between, thread_number}
 use Rattle.guest_sched.proofs.TurnLemmas.{ran_times, times_in-rotated}
 use Rattle.guest_sched.proofs.EngineLemmas.{IsRunner}
@@ -97,7 +97,7 @@ times-live : (t : ThreadNo) (ts : List Thread) → times t.0 (map thread_number 
 times-live t [] = refl
 times-live t (u ∷ ts) = omega (arith, times_live-cons t u ts, times-live t ts)
 
-pub few_ready : (ready : List ThreadNo) (s : Sys) → IsLively ready s → length ready ≤ length s.guest.threads
+pub few_ready : (ready : List ThreadNo) (s : Kernel) → IsLively ready s → length ready ≤ length s.guest.threads
 few_ready ready s lively =
     let all : length (map (λ (u : ThreadNo). u.0) ready) ≤ length (map thread_number s.guest.threads)
     = pigeons _ _ each in
@@ -139,7 +139,7 @@ live_once t (u ∷ ts) rise = elim (cases_eq t.0 u.no.0) [
   )
 ]
 
-pub first_idle : (ready : List ThreadNo) (s : Sys) (t : ThreadNo) → IsLively ready s
+pub first_idle : (ready : List ThreadNo) (s : Kernel) (t : ThreadNo) → IsLively ready s
     → IsStrictlyIncreasing (map thread_number s.guest.threads) → first_of ready ≡ Some t → times_waiting t s.waits ≡ 0
 first_idle [] s t lively rise is = cc
 first_idle (u ∷ us) s t lively rise is =
@@ -150,10 +150,10 @@ first_idle (u ∷ us) s t lively rise is =
     same_some x y e = cc
 
 -- the runner is the first ready thread
-pub runner_first : (w : Whole) (t : ThreadNo) → first_of w.line.ready ≡ Some t
-    → runner w ≡ caller_of t w.sys.guest.threads
+pub runner_first : (w : Engine) (t : ThreadNo) → first_of w.run_queue.ready ≡ Some t
+    → runner w ≡ caller_of t w.kernel.guest.threads
 unfolding runner
-runner_first w t first = ap (option_and_then (λ u. caller_of u w.sys.guest.threads)) first
+runner_first w t first = ap (option_and_then (λ u. caller_of u w.kernel.guest.threads)) first
 
 -- ---- who is ready after a call
 
@@ -175,7 +175,7 @@ leaving fate.Yields caller = []
 leaving fate.Leaves caller = caller ∷ []
 
 leaves_by : (t caller : ThreadNo) (a : Act) → signal_of a ≡ None
-    → times_in t (waiting caller a) + times_in t (ended caller a) ≡ times_in t (leaving (fate_of a) caller)
+    → times_in t (waiters_by caller a) + times_in t (gone_by caller a) ≡ times_in t (leaving (fate_of a) caller)
 unfolding leaving
 leaves_by t caller act.Answer none = refl
 leaves_by t caller (act.Wait addr) none = omega arith
@@ -186,43 +186,43 @@ leaves_by t caller act.ThreadEnd none = omega arith
 leaves_by t caller (act.ProcessEnd code) none = omega arith
 leaves_by t caller (act.Killed signal) none = cc
 
-passed_times : (t caller : ThreadNo) (f : Fate) (ts : List ThreadNo) (line : Line) → first_of line.ready ≡ Some caller
-    → times_in t (passed f ts line).ready + times_in t (leaving f caller) ≡ times_in t line.ready + times_in t ts
+passed_times : (t caller : ThreadNo) (f : Fate) (ts : List ThreadNo) (line : RunQueue) → first_of line.ready ≡ Some caller
+    → times_in t (after_step f ts line).ready + times_in t (leaving f caller) ≡ times_in t line.ready + times_in t ts
 unfolding leaving
 passed_times t caller fate.Runs ts line is =
-    omega (arith, ran_times t (entered ts line), times_in-append t line.ready ts)
+    omega (arith, ran_times t (with_threads ts line), times_in-append t line.ready ts)
 passed_times t caller fate.Yields ts line is =
     omega (arith, times_in-rotated t (line.ready ++ ts), times_in-append t line.ready ts)
 passed_times t caller fate.Leaves ts line is = without_first t caller line.ready ts is
 
-pub lively_called : (caller : ThreadNo) (line : Line) (old : Sys) (effect : Effect) (new : Sys)
+pub lively_called : (caller : ThreadNo) (line : RunQueue) (old : Kernel) (effect : Effect) (new : Kernel)
     → signal_of effect.act ≡ None → first_of line.ready ≡ Some caller → IsLively line.ready old
     → IsBalanced caller old effect new
-    → IsLively (passed (fate_of effect.act) (effect.woken ++ made effect.act) line).ready new
+    → IsLively (after_step (fate_of effect.act) (effect.woken ++ spawned_by effect.act) line).ready new
 lively_called caller line old effect new none is lively balanced t =
     omega (
       arith,
       lively t,
       balanced.waits t,
       balanced.lives t,
-      passed_times t caller (fate_of effect.act) (effect.woken ++ made effect.act) line is,
-      times_in-append t effect.woken (made effect.act),
+      passed_times t caller (fate_of effect.act) (effect.woken ++ spawned_by effect.act) line is,
+      times_in-append t effect.woken (spawned_by effect.act),
       leaves_by t caller effect.act none,
     )
 
 -- ---- a call is the step of its row
 
-pub called_ok : (e : Engine) (c : Caller) (effect : Effect) (s : Sys) → call_row e.kernel c.thread.no ≡ Ok (effect, s)
-    → call_step (whole_of e) c ≡ unless_killed (signal_of effect.act) (whole_of e) c effect s
+pub called_ok : (e : EngineFields) (c : Caller) (effect : Effect) (s : Kernel) → call_row e.kernel c.thread.no ≡ Ok (effect, s)
+    → call_step (engine_of e) c ≡ unless_killed (signal_of effect.act) (engine_of e) c effect s
 unfolding call_step
-called_ok e c effect s is = ap (by_row (whole_of e) c) is
+called_ok e c effect s is = ap (by_row (engine_of e) c) is
 
-pub called_unsupported : (e : Engine) (c : Caller) (number : ℕ) → call_row e.kernel c.thread.no ≡ Err number
-    → call_step (whole_of e) c ≡ Err (UnsupportedCall c.thread.regs.pc number)
+pub called_unsupported : (e : EngineFields) (c : Caller) (number : ℕ) → call_row e.kernel c.thread.no ≡ Err number
+    → call_step (engine_of e) c ≡ Err (UnsupportedCall c.thread.regs.pc number)
 unfolding call_step
-called_unsupported e c number is = ap (by_row (whole_of e) c) is
+called_unsupported e c number is = ap (by_row (engine_of e) c) is
 
-kills : (a : Act) (signal : ℕ) (old new : Sys) → signal_of a ≡ Some signal → ChangesNothing a old new → new ≡ old
+kills : (a : Act) (signal : ℕ) (old new : Kernel) → signal_of a ≡ Some signal → ChangesNothing a old new → new ≡ old
 kills (act.Killed other) signal old new is same = same
 kills act.Answer signal old new is same = cc
 kills (act.Wait addr) signal old new is same = cc
@@ -232,12 +232,12 @@ kills (act.Output fd bytes) signal old new is same = cc
 kills act.ThreadEnd signal old new is same = cc
 kills (act.ProcessEnd code) signal old new is same = cc
 
-pub killed_same : (e : Effect) (signal : ℕ) (old new : Sys) → signal_of e.act ≡ Some signal
+pub killed_same : (e : Effect) (signal : ℕ) (old new : Kernel) → signal_of e.act ≡ Some signal
     → ChangesNothing e.act old new → new ≡ old
 killed_same e signal old new is same = kills e.act signal old new is same
 
 -- the thread at the place of the running one
-pub thread_there : (e : Engine) (c : Caller) (d : Thread) → IsRunner e c
+pub thread_there : (e : EngineFields) (c : Caller) (d : Thread) → IsRunner e c
     → get_or e.kernel.guest.threads e.place d ≡ c.thread
 thread_there e c d runs = ap (λ i. get_or e.kernel.guest.threads i d) (sym runs.place)
     ∙ get_or_from_slice_get e.kernel.guest.threads c.place c.thread d runs.caller

@@ -14,18 +14,18 @@ use Rattle.rv_step.specs.Forms as forms
 use Rattle.rv_step.specs.Promises.{UnlessRetired}
 use Rattle.guest_mem.specs.Memory.{Memory}
 use Rattle.guest_load.specs.declared.thread.Thread.{Thread}
-use Rattle.guest_load.specs.State.{State}
+use Rattle.guest_load.specs.Guest.{Guest}
 use Rattle.guest_load.specs.Lawful.{IsLawful, IsThread}
 use Rattle.guest_sys.specs.declared.caller.Caller.{Caller}
 use Rattle.guest_sys.specs.Common.{IsCaller}
 use Rattle.guest_sys.proofs.GuestLemmas.{caller_lawful, lawful_with_caller}
 use Rattle.guest_sys.proofs.RowLemmas.{some_at}
-use Rattle.guest_sched.specs.Step.{executed, with_regs}
+use Rattle.guest_sched.specs.Step.{guest_after, with_regs}
 use Rattle.guest_sched.proofs.PlaceLemmas.{thread_number}
 use Rattle.guest_sched.specs.inner.Stages.{IsExecuted, Leaves}
 
 -- what holds of every guest, once a thread's registers, the memory and the number of steps have changed
-pub lawful_executed : (g : State) (c : Caller) (regs : Regs) (m : Memory) (steps : ℕ) → IsLawful g → IsCaller g c
+pub lawful_executed : (g : Guest) (c : Caller) (regs : Regs) (m : Memory) (steps : ℕ) → IsLawful g → IsCaller g c
     → regs.pc % 4 ≡ 0 → slice_index regs.x 0 ≡ 0
     → IsLawful (record g { mem = m; threads = set g.threads c.place (with_regs c.thread regs); steps = steps })
 lawful_executed g c regs m steps lawful is aligned zero =
@@ -47,7 +47,7 @@ lawful_executed g c regs m steps lawful is aligned zero =
 abbrev pub caller_with : ℕ → Thread → Caller
 caller_with place t = record { place = place; thread = t }
 
-pub caller_there : (g : State) (place : ℕ) (t : Thread) → place < length g.threads → t ≡ get_or g.threads place t
+pub caller_there : (g : Guest) (place : ℕ) (t : Thread) → place < length g.threads → t ≡ get_or g.threads place t
     → IsCaller g (caller_with place t)
 caller_there g place t within is = sym (some_at g.threads place t within) ∙ ap (λ u. Some u) (sym is)
 
@@ -55,29 +55,29 @@ same_some : {X : Type 0} (x y : X) → Some x ≡ Some y → x ≡ y
 same_some x y e = cc
 
 -- there is one caller at a place
-pub caller_same : (g : State) (place : ℕ) (t : Thread) (c : Caller) → IsCaller g (caller_with place t) → IsCaller g c
+pub caller_same : (g : Guest) (place : ℕ) (t : Thread) (c : Caller) → IsCaller g (caller_with place t) → IsCaller g c
     → c.place ≡ place → caller_with place t ≡ c
 caller_same g place t c is other at =
     let thread : t ≡ c.thread = same_some t c.thread (sym is ∙ ap (slice_get g.threads) (sym at) ∙ other) in
     λ i. record { place = sym at i; thread = thread i }
 
-retired : (c : Caller) (g : State) (h : Option ℕ) (answer : Stepped) (done : Done) (regs : Regs) (m : Memory)
+retired : (c : Caller) (g : Guest) (h : Option ℕ) (answer : Stepped) (done : Done) (regs : Regs) (m : Memory)
     (held : Option ℕ)
-    → forms.outcome answer regs m held ≡ step_of (forms.state c.thread.regs g.mem h) → answer ≡ stepped.Retired done
+    → forms.outcome answer regs m held ≡ step_of (forms.hart_state c.thread.regs g.mem h) → answer ≡ stepped.Retired done
     → IsExecuted c g h answer
     (record g { mem = m; threads = set g.threads c.place (with_regs c.thread regs); steps = g.steps + 1 }) held
 retired c g h answer done regs m held out is = record {
   answer_is = ap (λ (o : forms.Outcome). o.stepped) out;
   leaves =
-      subst (λ (a : Stepped). Leaves c g h a (step_of (forms.state c.thread.regs g.mem h)).after
-      (executed g c (forms.state regs m held)) held) (sym is)
-      (ap (λ (o : forms.Outcome). executed g c o.after) out, ap (λ (o : forms.Outcome). o.after.held) out);
+      subst (λ (a : Stepped). Leaves c g h a (step_of (forms.hart_state c.thread.regs g.mem h)).after
+      (guest_after g c (forms.hart_state regs m held)) held) (sym is)
+      (ap (λ (o : forms.Outcome). guest_after g c o.after) out, ap (λ (o : forms.Outcome). o.after.held) out);
 }
 
-pub executes_retired : (g : State) (place : ℕ) (t : Thread) (h : Option ℕ) (answer : Stepped) (done : Done)
+pub executes_retired : (g : Guest) (place : ℕ) (t : Thread) (h : Option ℕ) (answer : Stepped) (done : Done)
     (regs : Regs) (m : Memory) (held : Option ℕ)
     → place < length g.threads → t ≡ get_or g.threads place t
-    → forms.outcome answer regs m held ≡ step_of (forms.state t.regs g.mem h) → answer ≡ stepped.Retired done
+    → forms.outcome answer regs m held ≡ step_of (forms.hart_state t.regs g.mem h) → answer ≡ stepped.Retired done
     → (c : Caller) → IsCaller g c → c.place ≡ place
     → IsExecuted c g h answer
     (record g { mem = m; threads = set g.threads place (with_regs t regs); steps = g.steps + 1 }) held
@@ -88,12 +88,12 @@ executes_retired g place t h answer done regs m held within there out is c calle
     (retired (caller_with place t) g h answer done regs m held out is)
 
 -- an instruction that doesn't retire leaves the guest
-abbrev same_guest : State → Memory → List Thread → State
+abbrev same_guest : Guest → Memory → List Thread → Guest
 same_guest g m ts = record g { mem = m; threads = ts }
 
-stays : (c : Caller) (g : State) (h : Option ℕ) (answer : Stepped) (g' : State) (held : Option ℕ)
+stays : (c : Caller) (g : Guest) (h : Option ℕ) (answer : Stepped) (g' : Guest) (held : Option ℕ)
     → ((done : Done) → answer ≡ stepped.Retired done → ⊥)
-    → UnlessRetired answer (g' ≡ g) → UnlessRetired answer (held ≡ h) → (after : forms.State)
+    → UnlessRetired answer (g' ≡ g) → UnlessRetired answer (held ≡ h) → (after : forms.HartState)
     → Leaves c g h answer after g' held
 stays c g h (stepped.Retired done) g' held differs guest hold after = absurd (differs done refl)
 stays c g h stepped.Call g' held differs guest hold after = (guest, hold)
@@ -107,10 +107,10 @@ unless_both stepped.Call f a b = f a b
 unless_both (stepped.Trap signal) f a b = f a b
 unless_both (stepped.Unknown word) f a b = f a b
 
-pub executes_nothing : (g : State) (place : ℕ) (t : Thread) (h : Option ℕ) (answer : Stepped) (regs : Regs) (m : Memory)
+pub executes_nothing : (g : Guest) (place : ℕ) (t : Thread) (h : Option ℕ) (answer : Stepped) (regs : Regs) (m : Memory)
     (held : Option ℕ)
     → place < length g.threads → t ≡ get_or g.threads place t → forms.outcome answer regs m held
-    ≡ step_of (forms.state t.regs g.mem h) → ((done : Done) → answer ≡ stepped.Retired done → ⊥)
+    ≡ step_of (forms.hart_state t.regs g.mem h) → ((done : Done) → answer ≡ stepped.Retired done → ⊥)
     → UnlessRetired answer (regs ≡ t.regs) → UnlessRetired answer (m ≡ g.mem) → UnlessRetired answer (held ≡ h)
     → (c : Caller) → IsCaller g c → c.place ≡ place
     → IsExecuted c g h answer (record g { mem = m; threads = set g.threads place (with_regs t regs) }) held
@@ -124,7 +124,7 @@ executes_nothing g place t h answer regs m held within there out differs registe
     (record {
       answer_is = ap (λ (o : forms.Outcome). o.stepped) out;
       leaves = stays (caller_with place t) g h answer _ held differs (unless_both answer same registers memory) hold
-          (step_of (forms.state t.regs g.mem h)).after;
+          (step_of (forms.hart_state t.regs g.mem h)).after;
     })
 
 -- no thread gets another number

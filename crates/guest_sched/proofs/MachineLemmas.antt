@@ -12,19 +12,19 @@ use Rattle.rv_step.specs.declared.stepped.Stepped.{Stepped}
 use Rattle.rv_step.specs.declared.stepped.Stepped.TheVariants as stepped
 use Rattle.rv_step.specs.Effects.{step_of}
 use Rattle.guest_load.specs.declared.thread.Thread.{Thread}
-use Rattle.guest_sys.specs.Sys.{times_live}
+use Rattle.guest_sys.specs.Kernel.{times_live}
 use Rattle.guest_sys.specs.CallRow.{caller_of}
 use Rattle.guest_sys.specs.declared.caller.Caller.{Caller}
 use Rattle.guest_sys.proofs.LiveLemmas.{caller_found, nobody}
-use Rattle.guest_sched.specs.declared.engine.Engine.{Engine}
-use Rattle.guest_sched.specs.Whole.{Whole, first_of, runner}
-use Rattle.guest_sched.specs.Step.{by_answer, by_runner, call_step, event_of, state_of, step, tells, thread_step}
+use Rattle.guest_sched.specs.declared.engine.Engine.{Engine as EngineFields}
+use Rattle.guest_sched.specs.Engine.{Engine, first_of, runner}
+use Rattle.guest_sched.specs.Step.{by_answer, by_runner, call_step, event_of, hart_of, step, tells, thread_step}
 use Rattle.guest_sched.specs.Step.{unless_exited}
 use Rattle.guest_sched.specs.declared.turns.Halt.{Halt}
 use Rattle.guest_sched.specs.declared.turns.Halt.TheVariants as halt
-use Rattle.guest_sched.specs.Seen.{halt_by, halt_of}
-use Rattle.guest_sched.specs.Seen.{Seen, ended, kept, next, or_over, over, running, running_unless, told, unless_given}
-use Rattle.guest_sched.specs.inner.Sound.{IsSound, on_turn, whole_of}
+use Rattle.guest_sched.specs.Machine.{halt_by, halt_of}
+use Rattle.guest_sched.specs.Machine.{Machine, ended, with_machine, next, or_known_end, known_end, running, running_unless, machine_step, unless_given}
+use Rattle.guest_sched.specs.inner.Sound.{IsSound, on_turn, engine_of}
 use Rattle.guest_sched.specs.inner.Stages.{IsAdvanced, LeavesTurned}
 use Rattle.guest_sched.proofs.EngineLemmas.{on_first}
 use Rattle.guest_sched.proofs.TurnLemmas.{live_first}
@@ -42,16 +42,16 @@ first_some [] is = absurd (differ is)
     differ e = cc
 first_some (t ∷ ts) is = (t, refl)
 
-pub ended_given : (m : Seen) (end : End) → m.given ≡ Some end → ended m ≡ Some end
+pub ended_given : (m : Machine) (end : End) → m.given ≡ Some end → ended m ≡ Some end
 unfolding ended
-ended_given m end is = ap (λ (o : Option End). or_over o m.whole) is
+ended_given m end is = ap (λ (o : Option End). or_known_end o m.engine) is
 
-pub ended_over : (m : Seen) → m.given ≡ None → ended m ≡ over m.whole.exit (first_of m.whole.line.ready)
+pub ended_over : (m : Machine) → m.given ≡ None → ended m ≡ known_end m.engine.exit (first_of m.engine.run_queue.ready)
 unfolding ended
-ended_over m is = ap (λ (o : Option End). or_over o m.whole) is
+ended_over m is = ap (λ (o : Option End). or_known_end o m.engine) is
 
-over_step : (w : Whole) (end : End) (exit : Option ℕ) (first : Option ThreadNo) → w.exit ≡ exit
-    → first_of w.line.ready ≡ first → over exit first ≡ Some end → step w ≡ Err end
+over_step : (w : Engine) (end : End) (exit : Option ℕ) (first : Option ThreadNo) → w.exit ≡ exit
+    → first_of w.run_queue.ready ≡ first → known_end exit first ≡ Some end → step w ≡ Err end
 unfolding step runner
 over_step w end (Some code) first exits is e =
     ap (λ (o : Option ℕ). unless_exited o (by_runner w (runner w))) exits ∙ (λ i. Err (same i))
@@ -60,49 +60,49 @@ over_step w end (Some code) first exits is e =
     same = cc
 over_step w end None None exits is e =
     ap (λ (o : Option ℕ). unless_exited o (by_runner w (runner w))) exits
-    ∙ ap (λ (o : Option ThreadNo). by_runner w (option_and_then (λ t. caller_of t w.sys.guest.threads) o)) is
+    ∙ ap (λ (o : Option ThreadNo). by_runner w (option_and_then (λ t. caller_of t w.kernel.guest.threads) o)) is
     ∙ (λ i. Err (same i))
   where
     same : AllWaiting ≡ end
     same = cc
 over_step w end None (Some t) exits is e = cc
 
-next_by : (m : Seen) (end : End) (given : Option End) → m.given ≡ given → or_over given m.whole ≡ Some end
+next_by : (m : Machine) (end : End) (given : Option End) → m.given ≡ given → or_known_end given m.engine ≡ Some end
     → next m ≡ Err end
 unfolding next
-next_by m end (Some other) is e = ap (λ (o : Option End). unless_given o (kept (step m.whole))) is ∙ (λ i. Err (same i))
+next_by m end (Some other) is e = ap (λ (o : Option End). unless_given o (with_machine (step m.engine))) is ∙ (λ i. Err (same i))
   where
     same : other ≡ end
     same = cc
 next_by m end None is e =
-    ap (λ (o : Option End). unless_given o (kept (step m.whole))) is
-    ∙ ap kept (over_step m.whole end m.whole.exit (first_of m.whole.line.ready) refl refl e)
+    ap (λ (o : Option End). unless_given o (with_machine (step m.engine))) is
+    ∙ ap with_machine (over_step m.engine end m.engine.exit (first_of m.engine.run_queue.ready) refl refl e)
 
 -- an end that is known is given
-pub next_ended : (m : Seen) (end : End) → ended m ≡ Some end → next m ≡ Err end
+pub next_ended : (m : Machine) (end : End) → ended m ≡ Some end → next m ≡ Err end
 unfolding ended
 next_ended m end is = next_by m end m.given refl is
 
 -- ---- a machine that runs
 
-pub record Runs (m : Seen) : Type 0 where
+pub record Runs (m : Machine) : Type 0 where
   pub given : m.given ≡ None
-  pub exit : m.whole.exit ≡ None
-  pub turn : IsSome (on_turn m.whole.exit m.whole.line.ready)
+  pub exit : m.engine.exit ≡ None
+  pub turn : IsSome (on_turn m.engine.exit m.engine.run_queue.ready)
 
-runs_over : (exit : Option ℕ) (ready : List ThreadNo) → over exit (first_of ready) ≡ None
+runs_over : (exit : Option ℕ) (ready : List ThreadNo) → known_end exit (first_of ready) ≡ None
     → (exit ≡ None) × (IsSome (on_turn exit ready))
 runs_over (Some code) ready is = cc
 runs_over None [] is = cc
 runs_over None (t ∷ ts) is = (refl, refl)
 
-runs_by : (m : Seen) (given : Option End) → m.given ≡ given → or_over given m.whole ≡ None → Runs m
+runs_by : (m : Machine) (given : Option End) → m.given ≡ given → or_known_end given m.engine ≡ None → Runs m
 runs_by m (Some end) is e = cc
 runs_by m None is e =
-    let all = runs_over m.whole.exit m.whole.line.ready e in
+    let all = runs_over m.engine.exit m.engine.run_queue.ready e in
     record { given = is; exit = all.0; turn = all.1 }
 
-pub runs_is : (m : Seen) → ended m ≡ None → Runs m
+pub runs_is : (m : Machine) → ended m ≡ None → Runs m
 unfolding ended
 runs_is m is = runs_by m m.given refl is
 
@@ -111,95 +111,95 @@ some_is None some = cc
 some_is (Some t) some = (t, refl)
 
 -- there is a running thread
-pub runner_found : (e : Engine) → IsSound e → IsSome (on_turn e.exit e.schedule.ready)
-    → (c : Caller) × (runner (whole_of e) ≡ Some c)
+pub runner_found : (e : EngineFields) → IsSound e → IsSome (on_turn e.exit e.run_queue.ready)
+    → (c : Caller) × (runner (engine_of e) ≡ Some c)
 unfolding runner
 runner_found e sound some =
-    let on = some_is (on_turn e.exit e.schedule.ready) some in
-    let first = on_first e.exit e.schedule.ready some ∙ on.1 in
+    let on = some_is (on_turn e.exit e.run_queue.ready) some in
+    let first = on_first e.exit e.run_queue.ready some ∙ on.1 in
     let live : 1 ≤ times_live on.0 e.kernel.guest.threads
-    = live_first e.schedule.ready e.kernel on.0 sound.lively first in
+    = live_first e.run_queue.ready e.kernel on.0 sound.lively first in
     let found = caller_found on.0 e.kernel.guest.threads nobody live in
     (found.0, ap (option_and_then (λ t. caller_of t e.kernel.guest.threads)) first ∙ found.1)
 
-pub next_runs : (m : Seen) (c : Caller) → Runs m → runner m.whole ≡ Some c → next m ≡ kept (thread_step m.whole c)
+pub next_runs : (m : Machine) (c : Caller) → Runs m → runner m.engine ≡ Some c → next m ≡ with_machine (thread_step m.engine c)
 unfolding next step
 next_runs m c runs is =
-    ap (λ (o : Option End). unless_given o (kept (step m.whole))) runs.given
-    ∙ ap (λ (o : Option ℕ). kept (unless_exited o (by_runner m.whole (runner m.whole)))) runs.exit
-    ∙ ap (λ (o : Option Caller). kept (by_runner m.whole o)) is
+    ap (λ (o : Option End). unless_given o (with_machine (step m.engine))) runs.given
+    ∙ ap (λ (o : Option ℕ). with_machine (unless_exited o (by_runner m.engine (runner m.engine)))) runs.exit
+    ∙ ap (λ (o : Option Caller). with_machine (by_runner m.engine o)) is
 
 -- what the step is, by the answer of its instruction
-pub step_by : (w : Whole) (c : Caller) (answer given : Stepped) (w' : Whole) → IsAdvanced c w answer w' → answer ≡ given
-    → thread_step w c ≡ by_answer w c given (step_of (state_of w c)).after
+pub step_by : (w : Engine) (c : Caller) (answer given : Stepped) (w' : Engine) → IsAdvanced c w answer w' → answer ≡ given
+    → thread_step w c ≡ by_answer w c given (step_of (hart_of w c)).after
 step_by w c answer given w' advanced is =
-    ap (λ (a : Stepped). by_answer w c a (step_of (state_of w c)).after) (sym advanced.answer_is ∙ is)
+    ap (λ (a : Stepped). by_answer w c a (step_of (hart_of w c)).after) (sym advanced.answer_is ∙ is)
 
-pub left_by : (w : Whole) (c : Caller) (answer given : Stepped) (w' : Whole) → IsAdvanced c w answer w' → answer ≡ given
-    → LeavesTurned c w given (step_of (state_of w c)).after w'
+pub left_by : (w : Engine) (c : Caller) (answer given : Stepped) (w' : Engine) → IsAdvanced c w answer w' → answer ≡ given
+    → LeavesTurned c w given (step_of (hart_of w c)).after w'
 left_by w c answer given w' advanced is =
-    subst (λ (a : Stepped). LeavesTurned c w a (step_of (state_of w c)).after w') is advanced.leaves
+    subst (λ (a : Stepped). LeavesTurned c w a (step_of (hart_of w c)).after w') is advanced.leaves
 
 -- ---- what the code answers
 
-abbrev pub seen_with : Whole → Option End → Option ℕ → List ThreadNo → Seen
-seen_with w given wait woken = record { whole = w; given = given; wait = wait; woken = woken }
+abbrev pub seen_with : Engine → Option End → Option ℕ → List ThreadNo → Machine
+seen_with w given wait woken = record { engine = w; given = given; wait = wait; woken = woken }
 
-pub turn_retired : (m : Seen) (c : Caller) (answer : Stepped) (done : Done) (w' : Whole) (new : Seen)
-    (thread : ThreadNo) → Runs m → runner m.whole ≡ Some c
-    → IsAdvanced c m.whole answer w' → answer ≡ stepped.Retired done → thread ≡ c.thread.no
+pub turn_retired : (m : Machine) (c : Caller) (answer : Stepped) (done : Done) (w' : Engine) (new : Machine)
+    (thread : ThreadNo) → Runs m → runner m.engine ≡ Some c
+    → IsAdvanced c m.engine answer w' → answer ≡ stepped.Retired done → thread ≡ c.thread.no
     → new ≡ seen_with w' m.given None []
-    → next m ≡ Ok (told (event_of thread done false) None new, new)
+    → next m ≡ Ok (machine_step (event_of thread done false) None new, new)
 turn_retired m c answer done w' new thread runs is advanced retired same left =
     next_runs m c runs is
-    ∙ ap kept (step_by m.whole c answer (stepped.Retired done) w' advanced retired)
+    ∙ ap with_machine (step_by m.engine c answer (stepped.Retired done) w' advanced retired)
     ∙ (λ i. Ok (
-      told (event_of (sym same i) done false) None
-          (seen_with (sym (left_by m.whole c answer (stepped.Retired done) w' advanced retired) i)
+      machine_step (event_of (sym same i) done false) None
+          (seen_with (sym (left_by m.engine c answer (stepped.Retired done) w' advanced retired) i)
           (sym runs.given i) None []),
-      seen_with (sym (left_by m.whole c answer (stepped.Retired done) w' advanced retired) i)
+      seen_with (sym (left_by m.engine c answer (stepped.Retired done) w' advanced retired) i)
           (sym runs.given i) None [],
     ))
-    ∙ ap (λ (n : Seen). Ok (told (event_of thread done false) None n, n)) (sym left)
+    ∙ ap (λ (n : Machine). Ok (machine_step (event_of thread done false) None n, n)) (sym left)
 
-pub turn_trap : (m : Seen) (c : Caller) (answer : Stepped) (signal : ℕ) (w' : Whole) (pc : ℕ) → Runs m
-    → runner m.whole ≡ Some c
-    → IsAdvanced c m.whole answer w' → answer ≡ stepped.Trap signal → pc ≡ c.thread.regs.pc
+pub turn_trap : (m : Machine) (c : Caller) (answer : Stepped) (signal : ℕ) (w' : Engine) (pc : ℕ) → Runs m
+    → runner m.engine ≡ Some c
+    → IsAdvanced c m.engine answer w' → answer ≡ stepped.Trap signal → pc ≡ c.thread.regs.pc
     → next m ≡ Err (Killed signal pc)
 turn_trap m c answer signal w' pc runs is advanced trap at =
-    next_runs m c runs is ∙ ap kept (step_by m.whole c answer (stepped.Trap signal) w' advanced trap)
+    next_runs m c runs is ∙ ap with_machine (step_by m.engine c answer (stepped.Trap signal) w' advanced trap)
     ∙ (λ i. Err (Killed signal (sym at i)))
 
-pub turn_unknown : (m : Seen) (c : Caller) (answer : Stepped) (word : ℕ) (w' : Whole) (pc : ℕ) → Runs m
-    → runner m.whole ≡ Some c
-    → IsAdvanced c m.whole answer w' → answer ≡ stepped.Unknown word → pc ≡ c.thread.regs.pc
+pub turn_unknown : (m : Machine) (c : Caller) (answer : Stepped) (word : ℕ) (w' : Engine) (pc : ℕ) → Runs m
+    → runner m.engine ≡ Some c
+    → IsAdvanced c m.engine answer w' → answer ≡ stepped.Unknown word → pc ≡ c.thread.regs.pc
     → next m ≡ Err (UnsupportedInstr pc word)
 turn_unknown m c answer word w' pc runs is advanced unknown at =
-    next_runs m c runs is ∙ ap kept (step_by m.whole c answer (stepped.Unknown word) w' advanced unknown)
+    next_runs m c runs is ∙ ap with_machine (step_by m.engine c answer (stepped.Unknown word) w' advanced unknown)
     ∙ (λ i. Err (UnsupportedInstr (sym at i) word))
 
-pub turn_call : (m : Seen) (c : Caller) (answer : Stepped) (w' : Whole) → Runs m → runner m.whole ≡ Some c
-    → IsAdvanced c m.whole answer w' → answer ≡ stepped.Call → next m ≡ kept (call_step m.whole c)
+pub turn_call : (m : Machine) (c : Caller) (answer : Stepped) (w' : Engine) → Runs m → runner m.engine ≡ Some c
+    → IsAdvanced c m.engine answer w' → answer ≡ stepped.Call → next m ≡ with_machine (call_step m.engine c)
 turn_call m c answer w' runs is advanced call = next_runs m c runs is
-    ∙ ap kept (step_by m.whole c answer stepped.Call w' advanced call)
+    ∙ ap with_machine (step_by m.engine c answer stepped.Call w' advanced call)
 
 -- ---- an instruction that doesn't retire
 
-pub halts : (m : Seen) (c : Caller) (answer given : Stepped) (w' : Whole) → runner m.whole ≡ Some c
-    → IsAdvanced c m.whole answer w' → answer ≡ given → halt_of m ≡ halt_by given
+pub halts : (m : Machine) (c : Caller) (answer given : Stepped) (w' : Engine) → runner m.engine ≡ Some c
+    → IsAdvanced c m.engine answer w' → answer ≡ given → halt_of m ≡ halt_by given
 unfolding halt_of
 halts m c answer given w' is advanced same =
-    ap (option_and_then (λ (d : Caller). halt_by (step_of (state_of m.whole d)).stepped)) is
+    ap (option_and_then (λ (d : Caller). halt_by (step_of (hart_of m.engine d)).stepped)) is
     ∙ ap halt_by (sym advanced.answer_is ∙ same)
 
-halt_at : (m : Seen) (c : Caller) (h : Halt) → runner m.whole ≡ Some c → halt_of m ≡ Some h
-    → halt_by (step_of (state_of m.whole c)).stepped ≡ Some h
+halt_at : (m : Machine) (c : Caller) (h : Halt) → runner m.engine ≡ Some c → halt_of m ≡ Some h
+    → halt_by (step_of (hart_of m.engine c)).stepped ≡ Some h
 unfolding halt_of
 halt_at m c h is halted =
-    sym (ap (option_and_then (λ (d : Caller). halt_by (step_of (state_of m.whole d)).stepped)) is) ∙ halted
+    sym (ap (option_and_then (λ (d : Caller). halt_by (step_of (hart_of m.engine d)).stepped)) is) ∙ halted
 
 abbrev pub answer_of : Halt → Stepped
-answer_of halt.Call = stepped.Call
+answer_of halt.Ecall = stepped.Call
 answer_of (halt.Trap signal) = stepped.Trap signal
 answer_of (halt.Unknown word) = stepped.Unknown word
 
@@ -211,45 +211,45 @@ by_halt (stepped.Retired done) h e = absurd (differ e)
   where
     differ : None ≡ Some h → ⊥
     differ f = cc
-by_halt stepped.Call h e = ap answer_of (sym (same_halt halt.Call h e))
+by_halt stepped.Call h e = ap answer_of (sym (same_halt halt.Ecall h e))
 by_halt (stepped.Trap signal) h e = ap answer_of (sym (same_halt (halt.Trap signal) h e))
 by_halt (stepped.Unknown word) h e = ap answer_of (sym (same_halt (halt.Unknown word) h e))
 
-left_same : (w : Whole) (c : Caller) (h : Halt) → LeavesTurned c w (answer_of h) (step_of (state_of w c)).after w
-left_same w c halt.Call = refl
+left_same : (w : Engine) (c : Caller) (h : Halt) → LeavesTurned c w (answer_of h) (step_of (hart_of w c)).after w
+left_same w c halt.Ecall = refl
 left_same w c (halt.Trap signal) = refl
 left_same w c (halt.Unknown word) = refl
 
 -- it leaves the machine as it was
-pub stays : (m : Seen) (c : Caller) (h : Halt) → runner m.whole ≡ Some c → halt_of m ≡ Some h
-    → IsAdvanced c m.whole (answer_of h) m.whole
+pub stays : (m : Machine) (c : Caller) (h : Halt) → runner m.engine ≡ Some c → halt_of m ≡ Some h
+    → IsAdvanced c m.engine (answer_of h) m.engine
 stays m c h is halted = record {
-  answer_is = by_halt (step_of (state_of m.whole c)).stepped h (halt_at m c h is halted);
-  leaves = left_same m.whole c h;
+  answer_is = by_halt (step_of (hart_of m.engine c)).stepped h (halt_at m c h is halted);
+  leaves = left_same m.engine c h;
 }
 
 -- what a system call leaves, as the machine keeps it
-pub turn_called : (event : Event) (o p : Option (ℕ × List ℕ)) (wait now : Option ℕ) (woken : List ThreadNo) (w : Whole)
+pub turn_called : (event : Event) (o p : Option (ℕ × List ℕ)) (wait now : Option ℕ) (woken : List ThreadNo) (w : Engine)
     (given : Option End) → o ≡ p → wait ≡ now → given ≡ None
-    → kept (tells event o wait woken w) ≡ Ok (told event p (seen_with w given now woken), seen_with w given now woken)
+    → with_machine (tells event o wait woken w) ≡ Ok (machine_step event p (seen_with w given now woken), seen_with w given now woken)
 turn_called event o p wait now woken w given output waits none =
-    λ i. Ok (told event (output i) (seen_with w (sym none i) (waits i) woken), seen_with w (sym none i) (waits i) woken)
+    λ i. Ok (machine_step event (output i) (seen_with w (sym none i) (waits i) woken), seen_with w (sym none i) (waits i) woken)
 
 -- ---- the running thread
 
-pub running_over : (m : Seen) (o : Option End) → ended m ≡ o → is_some o ≡ true → None ≡ running m
+pub running_over : (m : Machine) (o : Option End) → ended m ≡ o → is_some o ≡ true → None ≡ running m
 unfolding running
 running_over m None is some = cc
-running_over m (Some end) is some = sym (ap (λ (e : Option End). running_unless e m.whole) is)
+running_over m (Some end) is some = sym (ap (λ (e : Option End). running_unless e m.engine) is)
 
 pub none_is : (o : Option End) → is_some o ≡ false → o ≡ None
 none_is None is = refl
 none_is (Some end) is = cc
 
-pub running_is : (m : Seen) (c : Caller) (t : Thread) → ended m ≡ None → runner m.whole ≡ Some c → t ≡ c.thread
+pub running_is : (m : Machine) (c : Caller) (t : Thread) → ended m ≡ None → runner m.engine ≡ Some c → t ≡ c.thread
     → Some (t.no, t.regs.pc) ≡ running m
 unfolding running
-running_is m c t over is same =
+running_is m c t known_end is same =
     ap (λ (u : Thread). Some (u.no, u.regs.pc)) same
-    ∙ sym (ap (λ (e : Option End). running_unless e m.whole) over
+    ∙ sym (ap (λ (e : Option End). running_unless e m.engine) known_end
     ∙ ap (option_map (λ (d : Caller). (d.thread.no, d.thread.regs.pc))) is)

@@ -11,19 +11,19 @@ use Rattle.event_costs.specs.Runs.{Run}
 use Rattle.event_costs.specs.declared.numbers.ThreadNo.{ThreadNo}
 use Rattle.event_costs.specs.declared.outcome.End.{End}
 use Rattle.guest_load.specs.declared.thread.Thread.{Thread}
-use Rattle.guest_load.specs.State.{State}
+use Rattle.guest_load.specs.Guest.{Guest}
 use Rattle.guest_load.specs.Lawful.{IsLawful}
 use Rattle.guest_futex.specs.Waits.{times_waiting}
-use Rattle.guest_sys.specs.Sys.{times_live}
+use Rattle.guest_sys.specs.Kernel.{times_live}
 use Rattle.guest_sys.specs.Laws.{times_in}
 use Rattle.guest_sys.specs.declared.caller.Caller.{Caller}
 use Rattle.guest_sys.proofs.BalanceLemmas.{times_live-cons}
 use Rattle.guest_sys.proofs.GuestLemmas.{caller_lawful}
 use Rattle.guest_sys.proofs.LiveLemmas.{caller_found, nobody}
-use Rattle.guest_sched.specs.Whole.{Whole, first_machine, runner, waiting_line}
-use Rattle.guest_sched.specs.Step.{Told}
-use Rattle.guest_sched.specs.Seen.{Seen, ended, first_seen, next, running, running_unless}
-use Rattle.guest_sched.specs.Laws.{InOrder, IsReached, IsTried, is_of, is_woken, made_from, pc_after, pc_in, waits}
+use Rattle.guest_sched.specs.Engine.{Engine, first_engine, runner, first_queue}
+use Rattle.guest_sched.specs.Step.{MachineStep}
+use Rattle.guest_sched.specs.Machine.{Machine, ended, new_machine, next, running, running_unless}
+use Rattle.guest_sched.specs.Laws.{InOrder, IsReached, IsTried, is_step_of, is_woken, made_from, pc_after, pc_in, waits}
 use Rattle.guest_sched.specs.inner.Sound.{IsLively, on_turn}
 use Rattle.guest_sched.proofs.CallLemmas.{first_idle, live_once}
 use Rattle.guest_sched.proofs.EngineLemmas.{number_there, place_unique}
@@ -37,15 +37,15 @@ use Rattle.guest_sched.proofs.TurnLemmas.{begins_times, on_turn_first}
 use Rattle.guest_futex.proofs.WaitLaws.{times_in-cons}
 
 -- what holds of the machine after the steps so far
-pub record Stands (guest : State) (earlier : List Told) (w : Whole) : Type 0 where
-  pub lawful : IsLawful (bare w.sys.guest)
-  pub lively : IsLively w.line.ready w.sys
-  pub each : EachWithin w.sys.guest.made earlier
-  pub first : guest.made ≤ w.sys.guest.made
-  pub now : made_from guest.made earlier ≡ w.sys.guest.made
-  pub pcs : (i : ℕ) (t : Thread) → slice_get w.sys.guest.threads i ≡ Some t
+pub record Stands (guest : Guest) (earlier : List MachineStep) (w : Engine) : Type 0 where
+  pub lawful : IsLawful (bare w.kernel.guest)
+  pub lively : IsLively w.run_queue.ready w.kernel
+  pub each : EachWithin w.kernel.guest.made earlier
+  pub first : guest.made ≤ w.kernel.guest.made
+  pub now : made_from guest.made earlier ≡ w.kernel.guest.made
+  pub pcs : (i : ℕ) (t : Thread) → slice_get w.kernel.guest.threads i ≡ Some t
       → pc_after guest t.no earlier ≡ Some t.regs.pc
-  pub waiting : (t : ThreadNo) → waits t earlier ≡ nat_le 1 (times_waiting t w.sys.waits)
+  pub waiting : (t : ThreadNo) → waits t earlier ≡ nat_le 1 (times_waiting t w.kernel.waits)
 
 -- ---- waits
 
@@ -101,81 +101,81 @@ times_none_in false t u differs = refl
 same_thread : (t u : ThreadNo) → t.0 ≡ u.0 → t ≡ u
 same_thread t u e = ap (λ n. let v : ThreadNo = record { 0 = n } in v) e
 
-idle : (w : Whole) (x : Told) (w' : Whole) (s : IsLawful (bare w.sys.guest)) → IsLively w.line.ready w.sys
-    → (m : Moved w x w') → times_waiting m.caller.thread.no w.sys.waits ≡ 0
-idle w x w' lawful lively m = first_idle w.line.ready w.sys m.caller.thread.no lively lawful.rising m.run.first
+idle : (w : Engine) (x : MachineStep) (w' : Engine) (s : IsLawful (bare w.kernel.guest)) → IsLively w.run_queue.ready w.kernel
+    → (m : Moved w x w') → times_waiting m.caller.thread.no w.kernel.waits ≡ 0
+idle w x w' lawful lively m = first_idle w.run_queue.ready w.kernel m.caller.thread.no lively lawful.rising m.run.first
 
-waits_once : (w : Whole) (t : ThreadNo) → IsLawful (bare w.sys.guest) → IsLively w.line.ready w.sys
-    → times_waiting t w.sys.waits ≤ 1
-waits_once w t lawful lively = omega (arith, lively t, live_once t w.sys.guest.threads lawful.rising)
+waits_once : (w : Engine) (t : ThreadNo) → IsLawful (bare w.kernel.guest) → IsLively w.run_queue.ready w.kernel
+    → times_waiting t w.kernel.waits ≤ 1
+waits_once w t lawful lively = omega (arith, lively t, live_once t w.kernel.guest.threads lawful.rising)
 
 none_woken : (t : ThreadNo) (us : List ThreadNo) → us ≡ [] → times_in t us ≡ 0
 none_woken t us e = ap (times_in t) e
 
-waits_next : (guest : State) (earlier : List Told) (w : Whole) (x : Told) (w' : Whole) → Stands guest earlier w
-    → (m : Moved w x w') → (t : ThreadNo) → waits t (earlier ++ one x) ≡ nat_le 1 (times_waiting t w'.sys.waits)
+waits_next : (guest : Guest) (earlier : List MachineStep) (w : Engine) (x : MachineStep) (w' : Engine) → Stands guest earlier w
+    → (m : Moved w x w') → (t : ThreadNo) → waits t (earlier ++ one x) ≡ nat_le 1 (times_waiting t w'.kernel.waits)
 waits_next guest earlier w x w' s m t = waits_push t earlier x ∙ elim (cases_eq x.event.thread.0 t.0) [
   | inl same ↦
       let c = m.caller.thread.no in
       let thread : c ≡ t = same_thread c t (ap (λ (u : ThreadNo). u.0) (sym m.thread) ∙ same) in
-      let none : times_waiting t w.sys.waits ≡ 0 = ap (λ (u : ThreadNo). times_waiting u w.sys.waits) (sym thread)
+      let none : times_waiting t w.kernel.waits ≡ 0 = ap (λ (u : ThreadNo). times_waiting u w.kernel.waits) (sym thread)
       ∙ idle w x w' s.lawful s.lively m in
       let begun : times_in t (cond (is_some x.wait) (c ∷ []) []) ≡ cond (is_some x.wait) 1 0
       = times_one_in (is_some x.wait) t c (ap (λ (u : ThreadNo). u.0) thread) in
-      cond-true (is_of t x) (is_some x.wait) (waits t earlier && not (is_woken t x)) (eq-eqb x.event.thread.0 t.0 same)
-      ∙ own_wait (is_some x.wait) (times_waiting t w.sys.waits) (times_waiting t w'.sys.waits) (times_in t x.woken) none
-      (m.balance t ∙ ap (λ n. times_waiting t w.sys.waits + n) begun) (λ q. none_woken t x.woken (m.quiet q))
+      cond-true (is_step_of t x) (is_some x.wait) (waits t earlier && not (is_woken t x)) (eq-eqb x.event.thread.0 t.0 same)
+      ∙ own_wait (is_some x.wait) (times_waiting t w.kernel.waits) (times_waiting t w'.kernel.waits) (times_in t x.woken) none
+      (m.balance t ∙ ap (λ n. times_waiting t w.kernel.waits + n) begun) (λ q. none_woken t x.woken (m.quiet q))
   | inr other ↦
       let c = m.caller.thread.no in
       let apart : c.0 ≢ t.0 = λ e. other (ap (λ (u : ThreadNo). u.0) m.thread ∙ e) in
       let begun : times_in t (cond (is_some x.wait) (c ∷ []) []) ≡ 0 = times_none_in (is_some x.wait) t c apart in
-      cond-false (is_of t x) (is_some x.wait) (waits t earlier && not (is_woken t x))
+      cond-false (is_step_of t x) (is_some x.wait) (waits t earlier && not (is_woken t x))
       (ne_eqb x.event.thread.0 t.0 other)
       ∙ (λ i. s.waiting t i && not (any_times t x.woken i))
-      ∙ waits_on (times_waiting t w.sys.waits) (times_waiting t w'.sys.waits) (times_in t x.woken)
+      ∙ waits_on (times_waiting t w.kernel.waits) (times_waiting t w'.kernel.waits) (times_in t x.woken)
       (omega (arith, m.balance t, begun)) (waits_once w t s.lawful s.lively)
 ]
 
 -- ---- threads go on where their last step led
 
-caller_numbered : (w : Whole) (x : Told) (w' : Whole) → IsLawful (bare w.sys.guest) → (m : Moved w x w')
-    → (1 ≤ m.caller.thread.no.0) × (m.caller.thread.no.0 ≤ w.sys.guest.made)
+caller_numbered : (w : Engine) (x : MachineStep) (w' : Engine) → IsLawful (bare w.kernel.guest) → (m : Moved w x w')
+    → (1 ≤ m.caller.thread.no.0) × (m.caller.thread.no.0 ≤ w.kernel.guest.made)
 caller_numbered w x w' lawful m =
-    let h = caller_lawful (bare w.sys.guest) m.caller lawful m.run.caller in
+    let h = caller_lawful (bare w.kernel.guest) m.caller lawful m.run.caller in
     (h.numbered, h.given)
 
-left_goes_on : (guest : State) (earlier : List Told) (w : Whole) (x : Told) (w' : Whole) (t : Thread)
+left_goes_on : (guest : Guest) (earlier : List MachineStep) (w : Engine) (x : MachineStep) (w' : Engine) (t : Thread)
     → Stands guest earlier w → (m : Moved w x w')
-    → IsLeft m.caller w.sys.guest w'.sys.guest x.event.ends x.event.done.next t
+    → IsLeft m.caller w.kernel.guest w'.kernel.guest x.event.ends x.event.done.next t
     → pc_after guest t.no (earlier ++ one x) ≡ Some t.regs.pc
 left_goes_on guest earlier w x w' t s m (inl own) =
     let same : x.event.thread.0 ≡ t.no.0 = ap (λ (u : ThreadNo). u.0) m.thread ∙ sym own.0 in
     pc_own guest t.no earlier x (eq-eqb x.event.thread.0 t.no.0 same) own.2 ∙ ap (λ n. Some n) (sym own.1)
 left_goes_on guest earlier w x w' t s m (inr (inl new)) =
-    let caller : x.event.thread.0 ≤ w.sys.guest.made
+    let caller : x.event.thread.0 ≤ w.kernel.guest.made
     = omega (arith, ap (λ (u : ThreadNo). u.0) m.thread, (caller_numbered w x w' s.lawful m).1) in
-    pc_made guest t.no earlier x w.sys.guest.made s.each (omega (arith, new.0)) caller
+    pc_made guest t.no earlier x w.kernel.guest.made s.each (omega (arith, new.0)) caller
     (omega (arith, new.0, new.1, m.threads)) s.first ∙ ap (λ n. Some n) (sym new.2)
 left_goes_on guest earlier w x w' t s m (inr (inr old)) =
-    let apart = numbers_differ w.sys.guest old.0 m.caller.place t m.caller.thread s.lawful old.1 m.run.caller old.2 in
+    let apart = numbers_differ w.kernel.guest old.0 m.caller.place t m.caller.thread s.lawful old.1 m.run.caller old.2 in
     pc_other guest t.no earlier x t.regs.pc
     (ne_eqb x.event.thread.0 t.no.0 (λ e. apart (sym e ∙ ap (λ (u : ThreadNo). u.0) m.thread)))
     (s.pcs old.0 t old.1)
 
 -- ---- one step more
 
-stands_next : (guest : State) (earlier : List Told) (w : Whole) (x : Told) (w' : Whole) → Stands guest earlier w
+stands_next : (guest : Guest) (earlier : List MachineStep) (w : Engine) (x : MachineStep) (w' : Engine) → Stands guest earlier w
     → (m : Moved w x w') → w'.exit ≡ None → Stands guest (earlier ++ one x) w'
 stands_next guest earlier w x w' s m stays =
     let after = m.after stays in
-    let caller : x.event.thread.0 ≤ w.sys.guest.made
+    let caller : x.event.thread.0 ≤ w.kernel.guest.made
     = omega (arith, ap (λ (u : ThreadNo). u.0) m.thread, (caller_numbered w x w' s.lawful m).1) in
     record {
       lawful = after.lawful;
       lively = m.lively;
       each =
-          within_push w'.sys.guest.made earlier x
-          (within_more w.sys.guest.made w'.sys.guest.made earlier m.made.0 s.each) (omega (arith, caller, m.made.0))
+          within_push w'.kernel.guest.made earlier x
+          (within_more w.kernel.guest.made w'.kernel.guest.made earlier m.made.0 s.each) (omega (arith, caller, m.made.0))
           (omega (arith, m.threads));
       first = omega (arith, s.first, m.made.0);
       now = made_push guest.made earlier x ∙ m.threads;
@@ -195,7 +195,7 @@ begun_none true t u us quiet some =
     differ e = cc
 begun_none false t u us quiet some = refl
 
-pub in_order : (guest : State) (earlier : List Told) (w : Whole) (x : Told) (w' : Whole) → Stands guest earlier w
+pub in_order : (guest : Guest) (earlier : List MachineStep) (w : Engine) (x : MachineStep) (w' : Engine) → Stands guest earlier w
     → (m : Moved w x w') → InOrder guest earlier x
 in_order guest earlier w x w' s m =
     let c = m.caller.thread.no in
@@ -204,12 +204,12 @@ in_order guest earlier w x w' s m =
     record {
       goes_on = ap (λ (u : ThreadNo). pc_after guest u earlier) m.thread
           ∙ s.pcs m.caller.place m.caller.thread m.run.caller ∙ ap (λ n. Some n) (sym m.pc);
-      awake = s.waiting x.event.thread ∙ ap (λ (u : ThreadNo). nat_le 1 (times_waiting u w.sys.waits)) m.thread
+      awake = s.waiting x.event.thread ∙ ap (λ (u : ThreadNo). nat_le 1 (times_waiting u w.kernel.waits)) m.thread
           ∙ ap (nat_le 1) (idle w x w' s.lawful s.lively m);
       wakes = λ t woken.
           let some : nat_le 1 (times_in t x.woken) ≡ true = sym (any_times t x.woken) ∙ woken in
-          s.waiting t ∙ wakes_by (times_waiting t w.sys.waits) (times_in t (cond (is_some x.wait) (c ∷ []) []))
-          (times_waiting t w'.sys.waits) (times_in t x.woken) some (m.balance t)
+          s.waiting t ∙ wakes_by (times_waiting t w.kernel.waits) (times_in t (cond (is_some x.wait) (c ∷ []) []))
+          (times_waiting t w'.kernel.waits) (times_in t x.woken) some (m.balance t)
           (begun_none (is_some x.wait) t c x.woken m.quiet some);
       numbered = (omega (arith, same, number.0), omega (arith, same, number.1, s.now));
       makes = (omega (arith, s.now, m.threads, m.made.0), omega (arith, s.now, m.threads, m.made.1));
@@ -219,33 +219,33 @@ in_order guest earlier w x w' s m =
 -- ---- whole runs
 
 -- what holds of a machine that is seen, unless its guest has exited
-pub record Holds (guest : State) (earlier : List Told) (m : Seen) : Type 0 where
-  pub stands : m.whole.exit ≡ None → Stands guest earlier m.whole
+pub record Holds (guest : Guest) (earlier : List MachineStep) (m : Machine) : Type 0 where
+  pub stands : m.engine.exit ≡ None → Stands guest earlier m.engine
   pub given : m.given ≡ None
-  pub made : made_from guest.made earlier ≡ m.whole.sys.guest.made
-  pub steps : m.whole.sys.guest.steps ≡ guest.steps + length earlier
+  pub made : made_from guest.made earlier ≡ m.engine.kernel.guest.made
+  pub steps : m.engine.kernel.guest.steps ≡ guest.steps + length earlier
 
-pub holds_next : (guest : State) (earlier : List Told) (m : Seen) (x : Told) (n : Seen) → Holds guest earlier m
+pub holds_next : (guest : Guest) (earlier : List MachineStep) (m : Machine) (x : MachineStep) (n : Machine) → Holds guest earlier m
     → next m ≡ Ok (x, n) → Holds guest (earlier ++ one x) n × InOrder guest earlier x
 holds_next guest earlier m x n h is =
     let stepped = next_is m x n is in
-    let s = h.stands (step_is m.whole x n.whole stepped.0).0 in
-    let move = moved m.whole x n.whole s.lawful s.lively stepped.0 in (
+    let s = h.stands (step_is m.engine x n.engine stepped.0).0 in
+    let move = moved m.engine x n.engine s.lawful s.lively stepped.0 in (
       record {
-        stands = stands_next guest earlier m.whole x n.whole s move;
+        stands = stands_next guest earlier m.engine x n.engine s move;
         given = stepped.1;
         made = made_push guest.made earlier x ∙ move.threads;
         steps = omega (arith, move.steps, h.steps, length-append earlier (one x));
       },
-      in_order guest earlier m.whole x n.whole s move,
+      in_order guest earlier m.engine x n.engine s move,
     )
 
-pub holds_run : (guest : State) (earlier later : List Told) (m n : Seen) → Holds guest earlier m → Run next m later n
+pub holds_run : (guest : Guest) (earlier later : List MachineStep) (m n : Machine) → Holds guest earlier m → Run next m later n
     → Holds guest (earlier ++ later) n
 holds_run guest earlier [] m n h run =
-    subst (λ (xs : List Told). Holds guest xs n) (sym (append-nil earlier)) (subst (Holds guest earlier) run h)
+    subst (λ (xs : List MachineStep). Holds guest xs n) (sym (append-nil earlier)) (subst (Holds guest earlier) run h)
 holds_run guest earlier (x ∷ xs) m n h run =
-    subst (λ (ys : List Told). Holds guest ys n) (append_assoc earlier (one x) xs)
+    subst (λ (ys : List MachineStep). Holds guest ys n) (append_assoc earlier (one x) xs)
     (holds_run guest (earlier ++ one x) xs run.0 n (holds_next guest earlier m x run.0 h run.1).0 run.2)
 
 -- ---- the first machine
@@ -268,7 +268,7 @@ live_at (u ∷ us) zero t at =
 live_at (u ∷ us) (suc i) t at = omega (arith, times_live-cons t.no u us, live_at us i t at)
 
 -- a thread at a place is found by its number
-pub found_at : (g : State) (i : ℕ) (t : Thread) → IsLawful g → slice_get g.threads i ≡ Some t
+pub found_at : (g : Guest) (i : ℕ) (t : Thread) → IsLawful g → slice_get g.threads i ≡ Some t
     → pc_in t.no g.threads ≡ Some t.regs.pc
 found_at g i t lawful at =
     let live : 1 ≤ times_live t.no g.threads = live_at g.threads i t at in
@@ -283,9 +283,9 @@ found_at g i t lawful at =
     same_some : (x y : Thread) → Some x ≡ Some y → x ≡ y
     same_some x y e = cc
 
-pub holds_first : (guest : State) (quantum : ℕ) (seed : Option ℕ) → IsLawful guest
-    → Holds guest [] (first_seen guest quantum seed)
-unfolding first_machine waits
+pub holds_first : (guest : Guest) (quantum : ℕ) (seed : Option ℕ) → IsLawful guest
+    → Holds guest [] (new_machine guest quantum seed)
+unfolding first_engine waits
 holds_first guest quantum seed lawful = record {
   given = refl;
   made = refl;
@@ -293,7 +293,7 @@ holds_first guest quantum seed lawful = record {
   stands = λ stays. record {
     lawful = bare_lawful guest lawful;
     lively = λ t.
-        let line = waiting_line guest.threads quantum seed in
+        let line = first_queue guest.threads quantum seed in
         omega (arith, begins_times t None line.ready line, first_times t guest.threads);
     each = tt {0};
     first = omega arith;
@@ -305,50 +305,50 @@ holds_first guest quantum seed lawful = record {
   };
 }
 
-pub holds_reached : (guest : State) (quantum : ℕ) (seed : Option ℕ) (earlier : List Told) (m : Seen)
+pub holds_reached : (guest : Guest) (quantum : ℕ) (seed : Option ℕ) (earlier : List MachineStep) (m : Machine)
     → IsReached guest quantum seed earlier m → Holds guest earlier m
 holds_reached guest quantum seed earlier m h =
-    holds_run guest [] earlier (first_seen guest quantum seed) m (holds_first guest quantum seed h.lawful) h.run
+    holds_run guest [] earlier (new_machine guest quantum seed) m (holds_first guest quantum seed h.lawful) h.run
 
 -- ---- a machine that was reached
 
-record Going (m : Seen) : Type 0 where
+record Going (m : Machine) : Type 0 where
   given : m.given ≡ None
-  exit : m.whole.exit ≡ None
+  exit : m.engine.exit ≡ None
   caller : Caller
-  runs : runner m.whole ≡ Some caller
+  runs : runner m.engine ≡ Some caller
 
 some_is : (o : Option ThreadNo) → IsSome o → (t : ThreadNo) × (o ≡ Some t)
 some_is None some = cc
 some_is (Some t) some = (t, refl)
 
-going : (guest : State) (earlier : List Told) (m : Seen) → Holds guest earlier m → ended m ≡ None → Going m
+going : (guest : Guest) (earlier : List MachineStep) (m : Machine) → Holds guest earlier m → ended m ≡ None → Going m
 going guest earlier m h is =
     let runs = runs_is m is in
-    let on = some_is (on_turn m.whole.exit m.whole.line.ready) runs.turn in
-    let found = runner_there m.whole on.0 (h.stands runs.exit).lively
-    (on_turn_first m.whole.exit m.whole.line.ready on.0 on.1) in
+    let on = some_is (on_turn m.engine.exit m.engine.run_queue.ready) runs.turn in
+    let found = runner_there m.engine on.0 (h.stands runs.exit).lively
+    (on_turn_first m.engine.exit m.engine.run_queue.ready on.0 on.1) in
     record { given = runs.given; exit = runs.exit; caller = found.0; runs = found.1 }
 
-pub one_runs : (guest : State) (earlier : List Told) (m : Seen) → Holds guest earlier m → ended m ≡ None
+pub one_runs : (guest : Guest) (earlier : List MachineStep) (m : Machine) → Holds guest earlier m → ended m ≡ None
     → IsSome (running m)
 one_runs guest earlier m h is =
     let g = going guest earlier m h is in
     subst IsSome (running_is m g.caller g.caller.thread is g.runs refl) refl
 
-pub tried_end : (guest : State) (earlier : List Told) (m : Seen) (end : End) → Holds guest earlier m → ended m ≡ None
+pub tried_end : (guest : Guest) (earlier : List MachineStep) (m : Machine) (end : End) → Holds guest earlier m → ended m ≡ None
     → next m ≡ Err end → IsTried end
 tried_end guest earlier m end h is e =
     let g = going guest earlier m h is in
-    tried_step m.whole g.caller end g.exit g.runs (next_end m end g.given e)
+    tried_step m.engine g.caller end g.exit g.runs (next_end m end g.given e)
 
-running_by : (o : Option End) (w : Whole) (p : ThreadNo × ℕ) → running_unless o w ≡ Some p → o ≡ None
+running_by : (o : Option End) (w : Engine) (p : ThreadNo × ℕ) → running_unless o w ≡ Some p → o ≡ None
 running_by None w p is = refl
 running_by (Some end) w p is = cc
 
-running_ends : (m : Seen) (p : ThreadNo × ℕ) → running m ≡ Some p → ended m ≡ None
+running_ends : (m : Machine) (p : ThreadNo × ℕ) → running m ≡ Some p → ended m ≡ None
 unfolding running
-running_ends m p is = running_by (ended m) m.whole p is
+running_ends m p is = running_by (ended m) m.engine p is
 
 same_pair : (a b : ThreadNo × ℕ) → Some a ≡ Some b → a ≡ b
 same_pair a b e = cc
@@ -356,7 +356,7 @@ same_pair a b e = cc
 same_caller : (a b : Caller) → Some a ≡ Some b → a ≡ b
 same_caller a b e = cc
 
-pub goes_where : (guest : State) (earlier : List Told) (m : Seen) (thread : ThreadNo) (pc : ℕ) (x : Told) (n : Seen)
+pub goes_where : (guest : Guest) (earlier : List MachineStep) (m : Machine) (thread : ThreadNo) (pc : ℕ) (x : MachineStep) (n : Machine)
     → Holds guest earlier m → running m ≡ Some (thread, pc) → next m ≡ Ok (x, n)
     → (x.event.thread ≡ thread) × (x.event.done.pc ≡ pc)
 goes_where guest earlier m thread pc x n h is e =
@@ -366,7 +366,7 @@ goes_where guest earlier m thread pc x n h is e =
     (running_is m g.caller g.caller.thread over g.runs refl ∙ is) in
     let stepped = next_is m x n e in
     let s = h.stands g.exit in
-    let move = moved m.whole x n.whole s.lawful s.lively stepped.0 in
+    let move = moved m.engine x n.engine s.lawful s.lively stepped.0 in
     let same = same_caller move.caller g.caller (sym move.runs ∙ g.runs) in (
       move.thread ∙ ap (λ (c : Caller). c.thread.no) same ∙ ap (λ (p : ThreadNo × ℕ). p.0) pair,
       move.pc ∙ ap (λ (c : Caller). c.thread.regs.pc) same ∙ ap (λ (p : ThreadNo × ℕ). p.1) pair,

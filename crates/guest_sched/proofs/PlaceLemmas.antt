@@ -10,7 +10,7 @@ use Rattle.std.proofs.lemmas.List.{length-map}
 use Rattle.std.specs.List.Sorted.{IsBinarySearchResult, IsNonDecreasingBy, IsSearchInRange, IsStrictlyIncreasing}
 use Rattle.event_costs.specs.declared.numbers.ThreadNo.{ThreadNo}
 use Rattle.guest_load.specs.declared.thread.Thread.{Thread}
-use Rattle.guest_sys.specs.Sys.{times_live}
+use Rattle.guest_sys.specs.Kernel.{times_live}
 use Rattle.guest_sys.proofs.BalanceLemmas.{times_live-cons}
 use Rattle.guest_sys.proofs.LiveLemmas.{nobody}
 use Rattle.guest_sched.specs.inner.Sound.{number_at}

@@ -4,7 +4,7 @@ use Rattle.std.proofs.Common.{arith}
 use Rattle.std.proofs.lemmas.List.{map-append, take-map, drop-map}
 use Rattle.std.specs.List.{remove}
 use Rattle.event_costs.specs.declared.numbers.ThreadNo.{ThreadNo}
-use Rattle.guest_sched.specs.Line.{to_front}
+use Rattle.guest_sched.specs.RunQueue.{to_front}
 
 one_there : {X Y : Type 0} (f : X → Y) (xs : List X) (k : ℕ) (y : X) → k < length xs → y ≡ get_or xs k y
     → f y ∷ [] ≡ take 1 (drop k (map f xs))

@@ -7,13 +7,13 @@ use Rattle.std.specs.List.{remove, slice_get}
 use Rattle.rand_pcg.specs.Lcg.{Lcg}
 use Rattle.event_costs.specs.declared.numbers.ThreadNo.{ThreadNo}
 use Rattle.guest_load.specs.declared.thread.Thread.{Thread}
-use Rattle.guest_sys.specs.Sys.{Sys, times_live}
+use Rattle.guest_sys.specs.Kernel.{Kernel, times_live}
 use Rattle.guest_sys.specs.Laws.{times_in}
 use Rattle.guest_sys.proofs.BalanceLemmas.{times_live-cons}
 use Rattle.guest_sched.specs.declared.turns.Fate.{Fate}
 use Rattle.guest_sched.specs.declared.turns.Fate.TheVariants as fate
-use Rattle.guest_sched.specs.Line.{Line, begun, begun_by, entered, goes_on, over, passed, ran, to_front}
-use Rattle.guest_sched.specs.Whole.{begins, first_of}
+use Rattle.guest_sched.specs.RunQueue.{RunQueue, with_new_turn, with_turn_by, with_threads, goes_on, without_turn, after_step, after_own_step, to_front}
+use Rattle.guest_sched.specs.Engine.{begins, first_of}
 use Rattle.guest_sched.specs.inner.Sound.{IsLively, number_at, on_turn}
 use Rattle.guest_sched.proofs.PlaceLemmas.{thread_number}
 use Rattle.guest_futex.proofs.WaitLaws.{times_in-cons, times_in-append}
@@ -44,39 +44,39 @@ times_in-rotated t us = omega (arith, times_in-append t (drop 1 us) (take 1 us),
 
 -- ---- a turn begins
 
-begun_times : (t : ThreadNo) (g : Option Lcg) (line : Line) → times_in t (begun_by g line).ready ≡ times_in t line.ready
+begun_times : (t : ThreadNo) (g : Option Lcg) (line : RunQueue) → times_in t (with_turn_by g line).ready ≡ times_in t line.ready
 begun_times t None line = refl
 begun_times t (Some g) line = times_in-to_front t _ line.ready
 
-pub begins_times : (t : ThreadNo) (exit : Option ℕ) (ready : List ThreadNo) (line : Line)
+pub begins_times : (t : ThreadNo) (exit : Option ℕ) (ready : List ThreadNo) (line : RunQueue)
     → times_in t (begins exit ready line).ready ≡ times_in t line.ready
-unfolding begun
+unfolding with_new_turn
 begins_times t (Some code) ready line = refl
 begins_times t None [] line = refl
 begins_times t None (u ∷ us) line = begun_times t line.generator line
 
-pub lively_begins : (exit : Option ℕ) (ready : List ThreadNo) (line : Line) (s : Sys) → IsLively line.ready s
+pub lively_begins : (exit : Option ℕ) (ready : List ThreadNo) (line : RunQueue) (s : Kernel) → IsLively line.ready s
     → IsLively (begins exit ready line).ready s
 lively_begins exit ready line s lively t = omega (arith, lively t, begins_times t exit ready line)
 
-begun_quantum : (g : Option Lcg) (line : Line) → (begun_by g line).quantum ≡ line.quantum
+begun_quantum : (g : Option Lcg) (line : RunQueue) → (with_turn_by g line).quantum ≡ line.quantum
 begun_quantum None line = refl
 begun_quantum (Some g) line = refl
 
-pub begins_quantum : (exit : Option ℕ) (ready : List ThreadNo) (line : Line)
+pub begins_quantum : (exit : Option ℕ) (ready : List ThreadNo) (line : RunQueue)
     → (begins exit ready line).quantum ≡ line.quantum
-unfolding begun
+unfolding with_new_turn
 begins_quantum (Some code) ready line = refl
 begins_quantum None [] line = refl
 begins_quantum None (u ∷ us) line = begun_quantum line.generator line
 
-begun_left : (g : Option Lcg) (line : Line) → 1 ≤ line.quantum → 1 ≤ (begun_by g line).left
+begun_left : (g : Option Lcg) (line : RunQueue) → 1 ≤ line.quantum → 1 ≤ (with_turn_by g line).steps_left
 begun_left None line h = h
 begun_left (Some g) line h = omega arith
 
-pub begins_left : (exit : Option ℕ) (ready : List ThreadNo) (line : Line) → ready ≡ line.ready → 1 ≤ line.quantum
-    → (t : ThreadNo) → on_turn exit (begins exit ready line).ready ≡ Some t → 1 ≤ (begins exit ready line).left
-unfolding begun
+pub begins_left : (exit : Option ℕ) (ready : List ThreadNo) (line : RunQueue) → ready ≡ line.ready → 1 ≤ line.quantum
+    → (t : ThreadNo) → on_turn exit (begins exit ready line).ready ≡ Some t → 1 ≤ (begins exit ready line).steps_left
+unfolding with_new_turn
 begins_left (Some code) ready line same h t is = cc
 begins_left None [] line same h t is = absurd (nobody (ap first_of same ∙ is))
   where
@@ -86,7 +86,7 @@ begins_left None (u ∷ us) line same h t is = begun_left line.generator line h
 
 -- ---- who runs is live
 
-pub live_first : (ready : List ThreadNo) (s : Sys) (t : ThreadNo) → IsLively ready s → first_of ready ≡ Some t
+pub live_first : (ready : List ThreadNo) (s : Kernel) (t : ThreadNo) → IsLively ready s → first_of ready ≡ Some t
     → 1 ≤ times_live t s.guest.threads
 live_first [] s t lively is = cc
 live_first (u ∷ us) s t lively is =
@@ -141,45 +141,45 @@ place_within (t ∷ ts) (suc i) n is = omega (arith, place_within ts i n is)
 
 -- ---- a step passes
 
-ran_by : (b : Bool) (x y : Line) (t : ThreadNo) (n : ℕ) → times_in t x.ready ≡ n → times_in t y.ready ≡ n
+ran_by : (b : Bool) (x y : RunQueue) (t : ThreadNo) (n : ℕ) → times_in t x.ready ≡ n → times_in t y.ready ≡ n
     → times_in t (cond b x y).ready ≡ n
 ran_by true x y t n p q = p
 ran_by false x y t n p q = q
 
 -- a thread whose turn ends by its length stays ready
-pub ran_times : (t : ThreadNo) (line : Line) → times_in t (ran fate.Runs line).ready ≡ times_in t line.ready
-ran_times t line = ran_by (line.left == 1) (over fate.Runs line) (goes_on line) t (times_in t line.ready)
+pub ran_times : (t : ThreadNo) (line : RunQueue) → times_in t (after_own_step fate.Runs line).ready ≡ times_in t line.ready
+ran_times t line = ran_by (line.steps_left == 1) (without_turn fate.Runs line) (goes_on line) t (times_in t line.ready)
     (times_in-rotated t line.ready) refl
 
-pub entered_none : (line : Line) → entered [] line ≡ line
-entered_none line = ap (λ ts. let l : Line = record line { ready = ts } in l) (append-nil line.ready)
+pub entered_none : (line : RunQueue) → with_threads [] line ≡ line
+entered_none line = ap (λ ts. let l : RunQueue = record line { ready = ts } in l) (append-nil line.ready)
 
-pub passed_none : (line : Line) → passed fate.Runs [] line ≡ ran fate.Runs line
-passed_none line = ap (ran fate.Runs) (entered_none line)
+pub passed_none : (line : RunQueue) → after_step fate.Runs [] line ≡ after_own_step fate.Runs line
+passed_none line = ap (after_own_step fate.Runs) (entered_none line)
 
 length_rotated : (us : List ThreadNo) → length (drop 1 us ++ take 1 us) ≡ length us
 length_rotated [] = refl
 length_rotated (u ∷ us) = length-append us (u ∷ []) ∙ omega arith
 
-length_by : (b : Bool) (x y : Line) (n : ℕ) → length x.ready ≡ n → length y.ready ≡ n → length (cond b x y).ready ≡ n
+length_by : (b : Bool) (x y : RunQueue) (n : ℕ) → length x.ready ≡ n → length y.ready ≡ n → length (cond b x y).ready ≡ n
 length_by true x y n p q = p
 length_by false x y n p q = q
 
-pub length_ran : (line : Line) → length (ran fate.Runs line).ready ≡ length line.ready
+pub length_ran : (line : RunQueue) → length (after_own_step fate.Runs line).ready ≡ length line.ready
 length_ran line =
-    length_by (line.left == 1) (over fate.Runs line) (goes_on line) (length line.ready) (length_rotated line.ready) refl
+    length_by (line.steps_left == 1) (without_turn fate.Runs line) (goes_on line) (length line.ready) (length_rotated line.ready) refl
 
 -- room for all that are ready after a step is room for those that enter
-pub room_runs : (f : Fate) (ts : List ThreadNo) (line : Line) → f ≡ fate.Runs → length (passed f ts line).ready ≤ 1024
+pub room_runs : (f : Fate) (ts : List ThreadNo) (line : RunQueue) → f ≡ fate.Runs → length (after_step f ts line).ready ≤ 1024
     → length line.ready + length ts ≤ 1024
 room_runs f ts line is room =
-    let there : length (passed fate.Runs ts line).ready ≤ 1024
-    = subst (λ (g : Fate). length (passed g ts line).ready ≤ 1024) is room in
-    omega (arith, there, length_ran (entered ts line), length-append line.ready ts)
+    let there : length (after_step fate.Runs ts line).ready ≤ 1024
+    = subst (λ (g : Fate). length (after_step g ts line).ready ≤ 1024) is room in
+    omega (arith, there, length_ran (with_threads ts line), length-append line.ready ts)
 
-pub room_yields : (f : Fate) (ts : List ThreadNo) (line : Line) → f ≡ fate.Yields
-    → length (passed f ts line).ready ≤ 1024 → length line.ready + length ts ≤ 1024
+pub room_yields : (f : Fate) (ts : List ThreadNo) (line : RunQueue) → f ≡ fate.Yields
+    → length (after_step f ts line).ready ≤ 1024 → length line.ready + length ts ≤ 1024
 room_yields f ts line is room =
-    let there : length (passed fate.Yields ts line).ready ≤ 1024
-    = subst (λ (g : Fate). length (passed g ts line).ready ≤ 1024) is room in
+    let there : length (after_step fate.Yields ts line).ready ≤ 1024
+    = subst (λ (g : Fate). length (after_step g ts line).ready ≤ 1024) is room in
     omega (arith, there, length_rotated (line.ready ++ ts), length-append line.ready ts)

@@ -1,6 +1,6 @@
-pub mod Line
-pub mod Whole
+pub mod RunQueue
+pub mod Engine
 pub mod Step
-pub mod Seen
+pub mod Machine
 pub mod Laws
 pub mod inner

@@ -16,9 +16,9 @@ use Rattle.rv_step.specs.declared.stepped.Stepped.TheVariants as stepped
 use Rattle.rv_step.specs.Effects.{step_of}
 use Rattle.rv_step.specs.Forms as forms
 use Rattle.guest_load.specs.declared.thread.Thread.{Thread}
-use Rattle.guest_load.specs.State.{State}
-use Rattle.guest_sys.specs.Sys.{Sys, sys}
-use Rattle.guest_sys.specs.Laws.{made}
+use Rattle.guest_load.specs.Guest.{Guest}
+use Rattle.guest_sys.specs.Kernel.{Kernel, kernel_of}
+use Rattle.guest_sys.specs.Laws.{spawned_by}
 use Rattle.guest_sys.specs.CallRow.{call_row}
 use Rattle.guest_sys.specs.declared.caller.Caller.{Caller}
 use Rattle.guest_sys.specs.declared.effect.Act.{Act}
@@ -26,10 +26,10 @@ use Rattle.guest_sys.specs.declared.effect.Act.TheVariants as act
 use Rattle.guest_sys.specs.declared.effect.Effect.{Effect}
 use Rattle.guest_sched.specs.declared.turns.Fate.{Fate}
 use Rattle.guest_sched.specs.declared.turns.Fate.TheVariants as fate
-use Rattle.guest_sched.specs.Whole.{Whole, runner, turned}
+use Rattle.guest_sched.specs.Engine.{Engine, runner, engine_after_step}
 
 -- what a step tells
-pub record Told : Type 0 where
+pub record MachineStep : Type 0 where
   pub event : Event
   -- a descriptor, and the bytes that are output to it
   pub output : Option (ℕ × List ℕ)
@@ -44,26 +44,26 @@ abbrev pub event_of : ThreadNo → Done → Bool → Event
 event_of thread done ends = record { thread = thread; done = done; ends = ends }
 
 -- the event's machine, and what the step tells beside it
-abbrev pub tells : Event → Option (ℕ × List ℕ) → Option ℕ → List ThreadNo → Whole → Result (Told × Whole) End
+abbrev pub tells : Event → Option (ℕ × List ℕ) → Option ℕ → List ThreadNo → Engine → Result (MachineStep × Engine) End
 tells event output wait woken w =
-    Ok (record { event = event; output = output; wait = wait; woken = woken; threads = w.sys.guest.made }, w)
+    Ok (record { event = event; output = output; wait = wait; woken = woken; threads = w.kernel.guest.made }, w)
 
 -- ---- an instruction
 
 -- the guest with one step more
-abbrev pub counted : State → State
-counted g = record g { steps = g.steps + 1 }
+abbrev pub with_step_more : Guest → Guest
+with_step_more g = record g { steps = g.steps + 1 }
 
 abbrev pub with_regs : Thread → Regs → Thread
 with_regs t regs = record t { regs = regs }
 
 -- the guest after an instruction of a thread
-abbrev pub executed : State → Caller → forms.State → State
-executed g c after =
-    counted (record g { mem = after.memory; threads = slice_set g.threads c.place (with_regs c.thread after.regs) })
+abbrev pub guest_after : Guest → Caller → forms.HartState → Guest
+guest_after g c after =
+    with_step_more (record g { mem = after.memory; threads = slice_set g.threads c.place (with_regs c.thread after.regs) })
 
-abbrev pub with_instruction : Whole → Caller → forms.State → Whole
-with_instruction w c after = record w { sys = sys (executed w.sys.guest c after) w.sys.waits; held = after.held }
+abbrev pub with_instruction : Engine → Caller → forms.HartState → Engine
+with_instruction w c after = record w { kernel = kernel_of (guest_after w.kernel.guest c after) w.kernel.waits; held = after.held }
 
 -- ---- a system call
 
@@ -108,42 +108,42 @@ signal_of (act.Killed signal) = Some signal
 signal_of _ = None
 
 -- the machine after a call, before its turn
-abbrev pub with_call : Whole → Act → Sys → Whole
-with_call w a s = record w { sys = sys (counted s.guest) s.waits; exit = exit_of a }
+abbrev pub with_call : Engine → Act → Kernel → Engine
+with_call w a s = record w { kernel = kernel_of (with_step_more s.guest) s.waits; exit = exit_of a }
 
 -- a call retires unless it kills; the threads that it woke or made become ready
-abbrev pub unless_killed : Option ℕ → Whole → Caller → Effect → Sys → Result (Told × Whole) End
+abbrev pub unless_killed : Option ℕ → Engine → Caller → Effect → Kernel → Result (MachineStep × Engine) End
 unless_killed (Some signal) w c effect s = Err (Killed signal c.thread.regs.pc)
 unless_killed None w c effect s =
     tells (event_of c.thread.no (call_done c.thread.regs) (ends_thread effect.act))
     (output_of effect.act) (wait_of effect.act) effect.woken
-    (turned (fate_of effect.act) (effect.woken ++ made effect.act) (with_call w effect.act s))
+    (engine_after_step (fate_of effect.act) (effect.woken ++ spawned_by effect.act) (with_call w effect.act s))
 
-abbrev pub by_row : Whole → Caller → Result (Effect × Sys) ℕ → Result (Told × Whole) End
+abbrev pub by_row : Engine → Caller → Result (Effect × Kernel) ℕ → Result (MachineStep × Engine) End
 by_row w c (Ok p) = unless_killed (signal_of p.0.act) w c p.0 p.1
 by_row w c (Err number) = Err (UnsupportedCall c.thread.regs.pc number)
 
-unfoldable pub call_step : Whole → Caller → Result (Told × Whole) End
-call_step w c = by_row w c (call_row w.sys c.thread.no)
+unfoldable pub call_step : Engine → Caller → Result (MachineStep × Engine) End
+call_step w c = by_row w c (call_row w.kernel c.thread.no)
 
 -- ---- a step
 
 -- what follows from the answer of an instruction and the state that it leaves
-abbrev pub by_answer : Whole → Caller → Stepped → forms.State → Result (Told × Whole) End
+abbrev pub by_answer : Engine → Caller → Stepped → forms.HartState → Result (MachineStep × Engine) End
 by_answer w c (stepped.Retired done) after =
-    tells (event_of c.thread.no done false) None None [] (turned fate.Runs [] (with_instruction w c after))
+    tells (event_of c.thread.no done false) None None [] (engine_after_step fate.Runs [] (with_instruction w c after))
 by_answer w c stepped.Call after = call_step w c
 by_answer w c (stepped.Trap signal) after = Err (Killed signal c.thread.regs.pc)
 by_answer w c (stepped.Unknown word) after = Err (UnsupportedInstr c.thread.regs.pc word)
 
 -- the state in which a thread executes an instruction
-abbrev pub state_of : Whole → Caller → forms.State
-state_of w c = forms.state c.thread.regs w.sys.guest.mem w.held
+abbrev pub hart_of : Engine → Caller → forms.HartState
+hart_of w c = forms.hart_state c.thread.regs w.kernel.guest.mem w.held
 
-abbrev pub thread_step : Whole → Caller → Result (Told × Whole) End
-thread_step w c = by_answer w c (step_of (state_of w c)).stepped (step_of (state_of w c)).after
+abbrev pub thread_step : Engine → Caller → Result (MachineStep × Engine) End
+thread_step w c = by_answer w c (step_of (hart_of w c)).stepped (step_of (hart_of w c)).after
 
-abbrev pub by_runner : Whole → Option Caller → Result (Told × Whole) End
+abbrev pub by_runner : Engine → Option Caller → Result (MachineStep × Engine) End
 by_runner w None = Err AllWaiting
 by_runner w (Some c) = thread_step w c
 
@@ -152,5 +152,5 @@ unless_exited None next = next
 unless_exited (Some code) next = Err (Exited code)
 
 -- one step: where the guest has exited, or no thread is ready, the run is over
-unfoldable pub step : Whole → Result (Told × Whole) End
+unfoldable pub step : Engine → Result (MachineStep × Engine) End
 step w = unless_exited w.exit (by_runner w (runner w))

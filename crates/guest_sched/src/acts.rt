@@ -2,7 +2,7 @@
 
 ghost use Rattle.std.specs.Prelude.{◌≡◌};
 ghost use Rattle.std.specs.Option.{option_to_list};
-ghost use Rattle.guest_sys.specs.Laws.{made};
+ghost use Rattle.guest_sys.specs.Laws.{spawned_by};
 ghost use Rattle.guest_sched.specs.Step.{ends_thread, exit_of, fate_of, signal_of, wait_of};
 
 use crate::turns::Fate;
@@ -58,8 +58,8 @@ pub fn signal_of(act: &Act) -> Option<u32>
 }
 
 /// The thread that was made, if one was.
-pub fn made(act: &Act) -> Option<ThreadNo>
-    ensures { option_to_list result ≡ made act.now }
+pub fn spawned_by(act: &Act) -> Option<ThreadNo>
+    ensures { option_to_list result ≡ spawned_by act.now }
 {
     match act {
         Act::Spawn(thread) => Some(*thread),

@@ -9,20 +9,20 @@ ghost use Rattle.guest_load.specs.Lawful.{IsLawful};
 ghost use Rattle.guest_futex.specs.Waits.{times_waiting};
 ghost use Rattle.guest_sys.specs.CallRow.{Calls, call_row, caller_of};
 ghost use Rattle.guest_sys.specs.Common.{IsCaller, WhereRefused};
-ghost use Rattle.guest_sys.specs.Laws.{ChangesNothing, IsBalanced, made};
-ghost use Rattle.guest_sys.specs.Sys.{EachWaiterLives, IsLive, Sys, sys};
+ghost use Rattle.guest_sys.specs.Laws.{ChangesNothing, IsBalanced, spawned_by};
+ghost use Rattle.guest_sys.specs.Kernel.{EachWaiterLives, IsLive, Kernel, kernel_of};
 ghost use Rattle.guest_sys.specs.Taking.{CallTakes};
 ghost use Rattle.guest_sys.specs.declared.caller.Caller.{Caller};
 ghost use Rattle.guest_sched.specs.declared.turns.Fate.{Fate};
-ghost use Rattle.guest_sched.specs.Line.{entered, ends_turn, passed};
-ghost use Rattle.guest_sched.specs.Whole.{begins, first_machine, first_of, next_turn, runner, turned, waiting_line};
-ghost use Rattle.guest_sched.specs.Step.{call_done, call_step, counted, ends_thread, exit_of, fate_of, with_call};
-ghost use Rattle.guest_sched.specs.inner.Sound.{IsLively, IsSound, number_at, on_turn, whole_of};
-ghost use Rattle.guest_sched.specs.inner.Stages.{IsAdvanced, IsCalled, IsExecuted};
+ghost use Rattle.guest_sched.specs.RunQueue.{with_threads, ends_turn, after_step};
+ghost use Rattle.guest_sched.specs.Engine.{begins, first_engine, first_of, next_turn, runner, engine_after_step, first_queue};
+ghost use Rattle.guest_sched.specs.Step.{call_done, call_step, with_step_more, ends_thread, exit_of, fate_of, with_call};
+ghost use Rattle.guest_sched.specs.inner.Sound.{IsLively, IsSound, number_at, on_turn, engine_of};
+ghost use Rattle.guest_sched.specs.inner.Stages.{IsAdvanced, IsCallOutcome, IsExecuted};
 
-use crate::acts::{ends_thread, exit_of, fate_of, made, signal_of};
+use crate::acts::{ends_thread, exit_of, fate_of, signal_of, spawned_by};
 use crate::places::place_of;
-use crate::schedule::{Ready, Schedule};
+use crate::run_queue::{Ready, RunQueue};
 use crate::turns::{Fate, Turns};
 use byte_text::OutOfMemory;
 use event_costs::{Branch, Done, End, Event, Flow, Regs, STACK_POINTER, ThreadNo, Touch};
@@ -35,7 +35,7 @@ use std::alloc::Global;
 #[derive(Drop)]
 pub struct Engine {
     pub kernel: Kernel,
-    pub schedule: Schedule,
+    pub run_queue: RunQueue,
     /// The place of the running thread among the live ones.
     pub place: usize,
     /// The address that the running thread has reserved.
@@ -46,7 +46,7 @@ pub struct Engine {
 
 /// What became of a system call.
 #[derive(Debug, Drop)]
-pub enum Called {
+pub enum CallOutcome {
     /// It retired with this event.
     Retired(Event, Effect),
     /// It ends the run, and nothing changed.
@@ -119,7 +119,7 @@ fn threads(kernel: &Kernel) -> &[Thread]
 /// One step more has been made.
 fn count_step(kernel: &mut Kernel)
     requires { kernel.old.guest.steps < 2 ^ 64 - 1 }
-    ensures counted { kernel.new ≡ sys (counted kernel.old.guest) kernel.old.waits }
+    ensures counted { kernel.new ≡ kernel_of (with_step_more kernel.old.guest) kernel.old.waits }
     ensures few { length kernel.new.guest.threads ≤ 1024 }
 {
     let guest = &mut kernel.guest;
@@ -144,14 +144,14 @@ impl Engine {
     /// A guest whose live threads are all ready, by rising number. Its first turn has begun.
     pub fn new(alloc: Global, guest: Guest, turns: Turns) -> Result<Engine, OutOfMemory>
         requires { 1 ≤ turns.quantum }
-        ensures first { IfOk result (λ e. whole_of e ≡ first_machine guest turns.quantum turns.seed) }
+        ensures first { IfOk result (λ e. engine_of e ≡ first_engine guest turns.quantum turns.seed) }
         ensures sound { IfOk result IsSound }
     {
-        let mut schedule = Schedule::new(alloc, turns)?;
-        schedule.enter_live(&guest.threads);
+        let mut run_queue = RunQueue::new(alloc, turns)?;
+        run_queue.enter_live(&guest.threads);
         let mut engine = Engine {
             kernel: Kernel::new(alloc, guest),
-            schedule,
+            run_queue,
             place: 0,
             held: None,
             exit: None,
@@ -163,8 +163,8 @@ impl Engine {
     /// The place of a thread that is ready is found, which last ran at this place.
     #[inline]
     fn find_place(&mut self, ready: Ready)
-        requires lively { IsLively self.old.schedule.ready self.old.kernel }
-        requires first { first_of self.old.schedule.ready ≡ Some ready.thread }
+        requires lively { IsLively self.old.run_queue.ready self.old.kernel }
+        requires first { first_of self.old.run_queue.ready ≡ Some ready.thread }
         ensures same { self.new ≡ record self.old { place = self.new.place } }
         ensures placed { number_at self.new.kernel.guest.threads self.new.place ≡ Some ready.thread.0 }
     {
@@ -174,27 +174,27 @@ impl Engine {
     /// The first thread's turn begins, where the guest hasn't exited and a thread is ready.
     #[inline]
     fn begin(&mut self)
-        requires { 1 ≤ self.old.schedule.quantum }
+        requires { 1 ≤ self.old.run_queue.quantum }
         ensures { self.new
-            ≡ record self.old { schedule = begins self.old.exit self.old.schedule.ready self.old.schedule } }
+            ≡ record self.old { run_queue = begins self.old.exit self.old.run_queue.ready self.old.run_queue } }
     {
-        if self.exit.is_some() || self.schedule.is_empty() {
+        if self.exit.is_some() || self.run_queue.is_empty() {
             return;
         }
-        self.schedule.begin();
+        self.run_queue.begin();
     }
 
     /// The next turn begins, if one does. The end of the last one clears the reservation.
     #[inline]
     fn begin_turn(&mut self)
-        requires lively { IsLively self.old.schedule.ready self.old.kernel }
-        requires quantum { 1 ≤ self.old.schedule.quantum }
-        ensures turn { whole_of self.new ≡ next_turn (record (whole_of self.old) { held = None }) }
+        requires lively { IsLively self.old.run_queue.ready self.old.kernel }
+        requires quantum { 1 ≤ self.old.run_queue.quantum }
+        ensures turn { engine_of self.new ≡ next_turn (record (engine_of self.old) { held = None }) }
         ensures sound { IsSound self.new }
     {
         self.held = None;
         self.begin();
-        if let Some(ready) = self.schedule.first() {
+        if let Some(ready) = self.run_queue.first() {
             self.find_place(ready);
         }
     }
@@ -203,11 +203,11 @@ impl Engine {
     #[inline(always)]
     fn pass(&mut self)
         requires sound { IsSound self.old }
-        requires runs { IsSome (on_turn self.old.exit self.old.schedule.ready) }
-        ensures turn { whole_of self.new ≡ turned Fate.Runs [] (whole_of self.old) }
+        requires runs { IsSome (on_turn self.old.exit self.old.run_queue.ready) }
+        ensures turn { engine_of self.new ≡ engine_after_step Fate.Runs [] (engine_of self.old) }
         ensures sound { IsSound self.new }
     {
-        if self.schedule.pass(self.place) {
+        if self.run_queue.pass(self.place) {
             self.begin_turn();
         }
     }
@@ -216,12 +216,12 @@ impl Engine {
     #[inline(always)]
     pub fn advance(&mut self, code: &mut Code) -> Stepped
         requires sound { IsSound self.old }
-        requires runs { IsSome (on_turn self.old.exit self.old.schedule.ready) }
+        requires runs { IsSome (on_turn self.old.exit self.old.run_queue.ready) }
         requires few { self.old.kernel.guest.steps < 2 ^ 64 - 1 }
         requires code { IsCodeOf code.old self.old.kernel.guest.mem }
         ensures code { IsCodeOf code.new self.new.kernel.guest.mem }
-        ensures step { (c : Caller) → runner (whole_of self.old) ≡ Some c
-            → IsAdvanced c (whole_of self.old) result (whole_of self.new) }
+        ensures step { (c : Caller) → runner (engine_of self.old) ≡ Some c
+            → IsAdvanced c (engine_of self.old) result (engine_of self.new) }
         ensures sound { IsSound self.new }
     {
         let stepped = execute_in(&mut self.kernel, self.place, &mut self.held, code);
@@ -233,72 +233,72 @@ impl Engine {
 
     /// A system call of the running thread has retired.
     fn turn(&mut self, fate: Fate, woken: &[ThreadNo], made: Option<ThreadNo>)
-        requires lively { let line = passed fate (woken.now ++ option_to_list made) self.old.schedule in
+        requires lively { let line = after_step fate (woken.now ++ option_to_list made) self.old.run_queue in
             IsLively line.ready self.old.kernel }
-        requires quantum { 1 ≤ self.old.schedule.quantum }
-        requires left { 1 ≤ self.old.schedule.left }
-        requires runs { 0 < length self.old.schedule.ready }
+        requires quantum { 1 ≤ self.old.run_queue.quantum }
+        requires left { 1 ≤ self.old.run_queue.steps_left }
+        requires runs { 0 < length self.old.run_queue.ready }
         requires few { length self.old.kernel.guest.threads ≤ 1024 }
-        ensures turn { whole_of self.new ≡ turned fate (woken.now ++ option_to_list made) (whole_of self.old) }
+        ensures turn { engine_of self.new ≡ engine_after_step fate (woken.now ++ option_to_list made) (engine_of self.old) }
         ensures sound { IsSound self.new }
     {
         let place = self.place;
-        if self.schedule.pass_call(fate, woken, made, place) {
+        if self.run_queue.pass_call(fate, woken, made, place) {
             return self.begin_turn();
         }
-        if let Some(Ready { thread, .. }) = self.schedule.first() {
+        if let Some(Ready { thread, .. }) = self.run_queue.first() {
             self.find_place(Ready { thread, place });
         }
     }
 
     /// A system call with this effect has retired.
     fn settle(&mut self, effect: &Effect)
-        requires lively { let threads = effect.now.woken ++ made effect.now.act in
-            IsLively (passed (fate_of effect.now.act) threads self.old.schedule).ready self.old.kernel }
-        requires quantum { 1 ≤ self.old.schedule.quantum }
-        requires left { 1 ≤ self.old.schedule.left }
-        requires runs { 0 < length self.old.schedule.ready }
+        requires lively { let threads = effect.now.woken ++ spawned_by effect.now.act in
+            IsLively (after_step (fate_of effect.now.act) threads self.old.run_queue).ready self.old.kernel }
+        requires quantum { 1 ≤ self.old.run_queue.quantum }
+        requires left { 1 ≤ self.old.run_queue.steps_left }
+        requires runs { 0 < length self.old.run_queue.ready }
         requires few { self.old.kernel.guest.steps < 2 ^ 64 - 1 }
-        ensures turn { let threads = effect.now.woken ++ made effect.now.act in
-            let after = with_call (whole_of self.old) effect.now.act self.old.kernel in
-            whole_of self.new ≡ turned (fate_of effect.now.act) threads after }
+        ensures turn { let threads = effect.now.woken ++ spawned_by effect.now.act in
+            let after = with_call (engine_of self.old) effect.now.act self.old.kernel in
+            engine_of self.new ≡ engine_after_step (fate_of effect.now.act) threads after }
         ensures sound { IsSound self.new }
     {
         count_step(&mut self.kernel);
         self.exit = exit_of(&effect.act);
         let woken = &effect.woken;
-        self.turn(fate_of(&effect.act), &woken.items, made(&effect.act));
+        self.turn(fate_of(&effect.act), &woken.items, spawned_by(&effect.act));
     }
 
     /// How many steps are left of the running thread's turn.
     #[inline(always)]
-    pub fn left(&self) -> u32
-        ensures { result ≡ self.now.schedule.left }
+    pub fn steps_left(&self) -> u32
+        ensures { result ≡ self.now.run_queue.steps_left }
     {
-        self.schedule.left()
+        self.run_queue.steps_left()
     }
 
     /// The running thread.
     #[inline(always)]
     pub fn running(&self) -> &Thread
         requires sound { IsSound self.now }
-        requires runs { IsSome (on_turn self.now.exit self.now.schedule.ready) }
-        ensures first { first_of self.now.schedule.ready ≡ Some result.now.no }
+        requires runs { IsSome (on_turn self.now.exit self.now.run_queue.ready) }
+        ensures first { first_of self.now.run_queue.ready ≡ Some result.now.no }
         ensures lawful { IsLawful self.now.kernel.guest }
-        ensures thread { (c : Caller) → runner (whole_of self.now) ≡ Some c → result.now ≡ c.thread }
+        ensures thread { (c : Caller) → runner (engine_of self.now) ≡ Some c → result.now ≡ c.thread }
     {
         &threads(&self.kernel)[self.place]
     }
 
     /// Makes the system call at which the running thread stands.
-    pub fn call(&mut self, code: &mut Code) -> Result<Called, OutOfMemory>
+    pub fn call(&mut self, code: &mut Code) -> Result<CallOutcome, OutOfMemory>
         requires sound { IsSound self.old }
-        requires runs { IsSome (on_turn self.old.exit self.old.schedule.ready) }
+        requires runs { IsSome (on_turn self.old.exit self.old.run_queue.ready) }
         requires few { self.old.kernel.guest.steps < 2 ^ 64 - 1 }
         requires code { IsCodeOf code.old self.old.kernel.guest.mem }
         ensures code { IsCodeOf code.new self.new.kernel.guest.mem }
-        ensures step { (c : Caller) → runner (whole_of self.old) ≡ Some c
-            → IsCalled (call_step (whole_of self.old) c) (whole_of self.old) result (whole_of self.new) }
+        ensures step { (c : Caller) → runner (engine_of self.old) ≡ Some c
+            → IsCallOutcome (call_step (engine_of self.old) c) (engine_of self.old) result (engine_of self.new) }
         ensures sound { IsSound self.new }
     {
         let live = self.running();
@@ -307,14 +307,14 @@ impl Engine {
         match call_in(&mut self.kernel, thread, code) {
             Ok(effect) => {
                 if let Some(signal) = signal_of(&effect.act) {
-                    return Ok(Called::Refused(End::Killed(signal, done.pc)));
+                    return Ok(CallOutcome::Refused(End::Killed(signal, done.pc)));
                 }
                 self.settle(&effect);
                 let ends = ends_thread(&effect.act);
-                Ok(Called::Retired(Event { thread, done, ends }, effect))
+                Ok(CallOutcome::Retired(Event { thread, done, ends }, effect))
             }
             Err(SysEnd::Unsupported(number)) => {
-                Ok(Called::Refused(End::UnsupportedCall(done.pc, number)))
+                Ok(CallOutcome::Refused(End::UnsupportedCall(done.pc, number)))
             }
             Err(SysEnd::OutOfMemory(refused)) => Err(refused),
         }

@@ -6,7 +6,7 @@ mod engine;
 pub mod laws;
 mod machine;
 mod places;
-mod schedule;
+mod run_queue;
 mod turns;
 
 pub use machine::Machine;

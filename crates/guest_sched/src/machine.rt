@@ -5,12 +5,12 @@ ghost use Rattle.std.specs.Prelude.{IsNone, IsSome, None, Ok, OnOk, Some};
 ghost use Rattle.guest_sys.specs.declared.caller.Caller.{Caller};
 ghost use Rattle.guest_sched.specs.declared.turns.Halt.{Halt};
 ghost use Rattle.guest_sched.specs.declared.turns.Turn.{Turn};
-ghost use Rattle.guest_sched.specs.Whole.{runner};
+ghost use Rattle.guest_sched.specs.Engine.{runner};
 ghost use Rattle.guest_sched.specs.Step.{call_step, output_of};
-ghost use Rattle.guest_sched.specs.Seen.{IsTurn, ended, first_seen, halt_of, kept, next, running, told, with_given};
+ghost use Rattle.guest_sched.specs.Machine.{IsTurn, ended, new_machine, halt_of, with_machine, next, running, machine_step, with_given};
 
 use crate::acts::wait_of;
-use crate::engine::{Called, Engine};
+use crate::engine::{CallOutcome, Engine};
 use crate::turns::{Halt, Turn, Turns};
 use byte_text::{OutOfMemory, Text};
 use event_costs::{Done, End, Event, ThreadNo};
@@ -22,7 +22,7 @@ use std::alloc::Global;
 use std::marker::Model;
 
 /// A guest whose threads take turns, with the end that was given, if one was, and what its last step did to those that
-/// wait. Contracts see it as a `Seen`.
+/// wait. Contracts see it without the code that it keeps.
 #[derive(Drop)]
 pub struct Machine {
     engine: Engine,
@@ -33,17 +33,17 @@ pub struct Machine {
 }
 
 impl Model for Machine {
-    ghost use Rattle.guest_sched.specs.Seen.{Seen};
-    ghost use Rattle.guest_sched.specs.inner.Codes.{seen_code};
+    ghost use Rattle.guest_sched.specs.Machine.{Machine};
+    ghost use Rattle.guest_sched.specs.inner.Codes.{machine_code};
 
-    ghost Value = { Seen };
+    ghost Value = { Machine };
 
-    ghost coded = { seen_code };
+    ghost coded = { machine_code };
 
-    ghost use Rattle.guest_sched.specs.inner.View.{seen_of};
+    ghost use Rattle.guest_sched.specs.inner.View.{machine_of};
     ghost use Rattle.guest_sched.specs.inner.Sound.{IsSound};
 
-    ghost view = { seen_of };
+    ghost view = { machine_of };
 
     ghost use Rattle.rv_step.specs.Code.{IsCodeOf};
 
@@ -56,7 +56,7 @@ impl Machine {
     /// seed, the generator is made by `seed_from_u64` of it. The first turn has begun.
     pub fn new(alloc: Global, guest: Guest, turns: Turns) -> Result<Machine, OutOfMemory>
         requires { 1 ≤ turns.quantum }
-        ensures { IfOk result (λ m. m ≡ first_seen guest turns.quantum turns.seed) }
+        ensures { IfOk result (λ m. m ≡ new_machine guest turns.quantum turns.seed) }
     {
         Ok(Machine {
             engine: Engine::new(alloc, guest, turns)?,
@@ -73,7 +73,7 @@ impl Machine {
     /// run is over, the same end is given again.
     #[inline(always)]
     pub fn next(&mut self) -> Result<Turn, OutOfMemory>
-        requires { self.old.whole.sys.guest.steps < 2 ^ 64 - 1 }
+        requires { self.old.engine.kernel.guest.steps < 2 ^ 64 - 1 }
         ensures { IsTurn (next self.old) self.old result self.new }
     {
         if let Some(end) = self.ended() {
@@ -93,13 +93,13 @@ impl Machine {
     /// the step.
     #[inline(always)]
     pub fn try_instruction(&mut self) -> Result<Event, Halt>
-        requires few { self.old.whole.sys.guest.steps < 2 ^ 64 - 1 }
+        requires few { self.old.engine.kernel.guest.steps < 2 ^ 64 - 1 }
         requires runs { ended self.old ≡ None }
-        ensures retired { IfOk result (λ event. next self.old ≡ Ok (told event None self.new, self.new)) }
+        ensures retired { IfOk result (λ event. next self.old ≡ Ok (machine_step event None self.new, self.new)) }
         // As long as its turn lasts, its thread runs on.
-        ensures turn { OnOk result (2 ≤ self.old.whole.line.left
-            → self.new.whole.line.left + 1 ≡ self.old.whole.line.left) }
-        ensures runs_on { IfOk result (λ event. 2 ≤ self.old.whole.line.left
+        ensures turn { OnOk result (2 ≤ self.old.engine.run_queue.steps_left
+            → self.new.engine.run_queue.steps_left + 1 ≡ self.old.engine.run_queue.steps_left) }
+        ensures runs_on { IfOk result (λ event. 2 ≤ self.old.engine.run_queue.steps_left
             → running self.new ≡ Some (event.thread, event.done.next)) }
         ensures halted { IfErr result (λ halt. halt_of self.old ≡ Some halt) }
         ensures unchanged { IfErr result (λ halt. self.new ≡ self.old) }
@@ -115,7 +115,7 @@ impl Machine {
                     ends: false,
                 })
             }
-            Stepped::Call => Err(Halt::Call),
+            Stepped::Call => Err(Halt::Ecall),
             Stepped::Trap(signal) => Err(Halt::Trap(signal)),
             Stepped::Unknown(word) => Err(Halt::Unknown(word)),
         }
@@ -125,7 +125,7 @@ impl Machine {
     /// takes memory for a system call alone, before anything changes.
     #[cold]
     pub fn next_halted(&mut self, halt: Halt) -> Result<Turn, OutOfMemory>
-        requires few { self.old.whole.sys.guest.steps < 2 ^ 64 - 1 }
+        requires few { self.old.engine.kernel.guest.steps < 2 ^ 64 - 1 }
         requires runs { ended self.old ≡ None }
         requires halted { halt_of self.old ≡ Some halt }
         ensures { IsTurn (next self.old) self.old result self.new }
@@ -133,7 +133,7 @@ impl Machine {
         let live = self.engine.running();
         let pc = live.regs.pc;
         match halt {
-            Halt::Call => self.call(),
+            Halt::Ecall => self.call(),
             Halt::Trap(signal) => Ok(self.give(End::Killed(signal, pc))),
             Halt::Unknown(word) => Ok(self.give(End::UnsupportedInstr(pc, word))),
         }
@@ -142,16 +142,16 @@ impl Machine {
     /// Makes the system call at which the running thread stands.
     #[cold]
     fn call(&mut self) -> Result<Turn, OutOfMemory>
-        requires few { self.old.whole.sys.guest.steps < 2 ^ 64 - 1 }
+        requires few { self.old.engine.kernel.guest.steps < 2 ^ 64 - 1 }
         requires runs { ended self.old ≡ None }
-        requires halted { halt_of self.old ≡ Some Halt.Call }
-        ensures { (c : Caller) → runner self.old.whole ≡ Some c
-            → IsTurn (kept (call_step self.old.whole c)) self.old result self.new }
+        requires halted { halt_of self.old ≡ Some Halt.Ecall }
+        ensures { (c : Caller) → runner self.old.engine ≡ Some c
+            → IsTurn (with_machine (call_step self.old.engine c)) self.old result self.new }
     {
         let called = self.engine.call(&mut self.code);
         let (event, effect) = match called? {
-            Called::Retired(event, effect) => (event, effect),
-            Called::Refused(end) => return Ok(self.give(end)),
+            CallOutcome::Retired(event, effect) => (event, effect),
+            CallOutcome::Refused(end) => return Ok(self.give(end)),
         };
         let Effect { act, woken } = effect;
         self.wait = wait_of(&act);
@@ -194,7 +194,7 @@ impl Machine {
         if let Some(code) = self.engine.exit {
             return Some(End::Exited(code));
         }
-        if self.engine.schedule.is_empty() {
+        if self.engine.run_queue.is_empty() {
             return Some(End::AllWaiting);
         }
         None
@@ -216,7 +216,7 @@ impl Machine {
     /// How many steps have been made.
     #[inline(always)]
     pub fn steps(&self) -> u64
-        ensures { result ≡ self.now.whole.sys.guest.steps }
+        ensures { result ≡ self.now.engine.kernel.guest.steps }
     {
         let kernel = &self.engine.kernel;
         let guest = &kernel.guest;
@@ -225,15 +225,15 @@ impl Machine {
 
     /// How many steps are left of the running thread's turn.
     #[inline(always)]
-    pub fn left(&self) -> u32
-        ensures { result ≡ self.now.whole.line.left }
+    pub fn steps_left(&self) -> u32
+        ensures { result ≡ self.now.engine.run_queue.steps_left }
     {
-        self.engine.left()
+        self.engine.steps_left()
     }
 
     /// How many threads have been made.
     pub fn threads(&self) -> u32
-        ensures { result ≡ self.now.whole.sys.guest.made }
+        ensures { result ≡ self.now.engine.kernel.guest.made }
     {
         let kernel = &self.engine.kernel;
         let guest = &kernel.guest;

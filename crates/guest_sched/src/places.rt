@@ -2,7 +2,7 @@
 
 ghost use Rattle.std.specs.Prelude.{◌≡◌, map, Some};
 ghost use Rattle.std.specs.List.Sorted.{IsStrictlyIncreasing};
-ghost use Rattle.guest_sys.specs.Sys.{IsLive};
+ghost use Rattle.guest_sys.specs.Kernel.{IsLive};
 ghost use Rattle.guest_sched.specs.inner.Sound.{number_at};
 
 use event_costs::ThreadNo;
@@ -18,13 +18,13 @@ pub fn place_of(threads: &[Thread], thread: ThreadNo, last: usize) -> usize
 {
     match threads.get(last) {
         Some(live) if live.no == thread => last,
-        _ => found(threads, thread),
+        _ => place_of_cold(threads, thread),
     }
 }
 
 /// The place of a live thread, by its number.
 #[cold]
-fn found(threads: &[Thread], thread: ThreadNo) -> usize
+fn place_of_cold(threads: &[Thread], thread: ThreadNo) -> usize
     requires rising { IsStrictlyIncreasing (map (λ t. t.no.0) threads.now) }
     requires live { IsLive thread threads.now }
     ensures { number_at threads.now result ≡ Some thread.0 }

@@ -27,7 +27,7 @@ pub enum Turn {
 #[derive(Clone, Copy, Debug, PartialEq, Eq)]
 pub enum Halt {
     /// It is a system call.
-    Call,
+    Ecall,
     /// It traps with this signal.
     Trap(u32),
     /// The word at the pc, this one, is no instruction.

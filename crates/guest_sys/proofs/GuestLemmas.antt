@@ -14,16 +14,16 @@ use Rattle.std.specs.List.{remove}
 use Rattle.std.specs.List.Sorted.{IsStrictlyIncreasing}
 use Rattle.guest_mem.specs.Memory.{Memory}
 use Rattle.guest_load.specs.declared.thread.Thread.{Thread}
-use Rattle.guest_load.specs.State.{State}
+use Rattle.guest_load.specs.Guest.{Guest}
 use Rattle.guest_load.specs.Lawful.{IsLawful, IsThread}
 use Rattle.guest_sys.specs.declared.caller.Caller.{Caller}
-use Rattle.guest_sys.specs.Common.{IsCaller, argument, resumed, with_caller, settled}
+use Rattle.guest_sys.specs.Common.{IsCaller, argument, resume, with_caller, settle}
 use Rattle.guest_sys.specs.Threads.{is_crowded, new_thread, sets_tls, with_stack, with_tls, without_caller}
 
 abbrev pub thread_number : Thread → ℕ
 thread_number t = t.no.0
 
-pub caller_lawful : (g : State) (c : Caller) → IsLawful g → IsCaller g c → IsThread g.made c.thread
+pub caller_lawful : (g : Guest) (c : Caller) → IsLawful g → IsCaller g c → IsThread g.made c.thread
 caller_lawful g c lawful is =
     subst (IsThread g.made) (get_or_from_slice_get g.threads c.place c.thread c.thread is)
     (lawful.each_thread c.place c.thread (slice_get_within g.threads c.place c.thread is))
@@ -31,7 +31,7 @@ caller_lawful g c lawful is =
 next_aligned : (pc : ℕ) → pc % 4 ≡ 0 → (pc + 4) % 2 ^ 32 % 4 ≡ 0
 next_aligned pc h = omega arith
 
-pub resumed_lawful : (made value : ℕ) (t : Thread) → IsThread made t → IsThread made (resumed t value)
+pub resumed_lawful : (made value : ℕ) (t : Thread) → IsThread made t → IsThread made (resume t value)
 resumed_lawful made value t h = record {
   numbered = h.numbered;
   given = h.given;
@@ -40,7 +40,7 @@ resumed_lawful made value t h = record {
 }
 
 -- a thread is written, and keeps its number
-pub lawful_with_caller : (g : State) (c : Caller) (t : Thread) → IsLawful g → IsCaller g c → t.no.0 ≡ c.thread.no.0
+pub lawful_with_caller : (g : Guest) (c : Caller) (t : Thread) → IsLawful g → IsCaller g c → t.no.0 ≡ c.thread.no.0
     → IsThread g.made t → IsLawful (with_caller g c t)
 lawful_with_caller g c t lawful is same h = record {
   read_within = lawful.read_within;
@@ -55,9 +55,9 @@ lawful_with_caller g c t lawful is same h = record {
   break_low = lawful.break_low;
 }
 
-pub lawful_settled : (g : State) (c : Caller) (value : ℕ) → IsLawful g → IsCaller g c → IsLawful (settled g c value)
+pub lawful_settled : (g : Guest) (c : Caller) (value : ℕ) → IsLawful g → IsCaller g c → IsLawful (settle g c value)
 lawful_settled g c value lawful is =
-    lawful_with_caller g c (resumed c.thread value) lawful is refl
+    lawful_with_caller g c (resume c.thread value) lawful is refl
     (resumed_lawful g.made value c.thread (caller_lawful g c lawful is))
 
 -- ---- a thread is removed
@@ -99,7 +99,7 @@ all_removed P xs i h all k d below =
 map_removed : {X : Type 0} (f : X → ℕ) (xs : List X) (i : ℕ) → map f (remove xs i) ≡ remove (map f xs) i
 map_removed f xs i = simp (map-append, take-map, drop-map)
 
-pub lawful_without : (g : State) (c : Caller) (m : Memory) → IsLawful g → IsCaller g c → IsLawful (without_caller g c m)
+pub lawful_without : (g : Guest) (c : Caller) (m : Memory) → IsLawful g → IsCaller g c → IsLawful (without_caller g c m)
 lawful_without g c m lawful is =
     let within : c.place < length g.threads = slice_get_within g.threads c.place c.thread is in
     record {
@@ -177,10 +177,10 @@ more_made made value t h is = record {
   zero = is.zero;
 }
 
-not_crowded : (g : State) → is_crowded g ≡ false → (length g.threads < 1024) × (g.made < 65535)
+not_crowded : (g : Guest) → is_crowded g ≡ false → (length g.threads < 1024) × (g.made < 65535)
 not_crowded g h = grind (arith, nat_tests)
 
-pub lawful_added : (g : State) (c : Caller) (value : ℕ) (m : Memory) → IsLawful g → IsCaller g c → value ≡ g.made + 1
+pub lawful_added : (g : Guest) (c : Caller) (value : ℕ) (m : Memory) → IsLawful g → IsCaller g c → value ≡ g.made + 1
     → is_crowded g ≡ false
     → IsLawful (record g { mem = m; threads = g.threads ++ new_thread value c ∷ []; made = value })
 lawful_added g c value m lawful is next room =

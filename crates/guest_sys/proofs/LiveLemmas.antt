@@ -17,9 +17,9 @@ use Rattle.guest_sys.specs.declared.caller.Caller.{Caller}
 use Rattle.guest_sys.specs.declared.effect.Act.{Act}
 use Rattle.guest_sys.specs.declared.effect.Act.TheVariants as act
 use Rattle.guest_sys.specs.declared.effect.Effect.{Effect}
-use Rattle.guest_sys.specs.Sys.{Sys, times_live, EachWaiterLives}
+use Rattle.guest_sys.specs.Kernel.{Kernel, times_live, EachWaiterLives}
 use Rattle.guest_sys.specs.CallRow.{caller_at, caller_of}
-use Rattle.guest_sys.specs.Laws.{times_in, waiting, ended, IsBalanced}
+use Rattle.guest_sys.specs.Laws.{times_in, waiters_by, gone_by, IsBalanced}
 use Rattle.std.proofs.lemmas.Bool.{lt-ltb}
 use Rattle.std.proofs.lemmas.Bool.Decides.{nat_tests}
 use Rattle.guest_sys.proofs.BalanceLemmas.{times_live-cons, times_in-one}
@@ -148,7 +148,7 @@ at_most_one thread other = omega (arith, times_in-one thread other, small (other
     small true = omega arith
     small false = omega arith
 
-waiting_other : (thread caller : ThreadNo) (a : Act) → thread.0 ≢ caller.0 → times_in thread (waiting caller a) ≡ 0
+waiting_other : (thread caller : ThreadNo) (a : Act) → thread.0 ≢ caller.0 → times_in thread (waiters_by caller a) ≡ 0
 waiting_other thread caller (act.Wait addr) differs = one_other thread caller differs
 waiting_other thread caller act.Answer differs = refl
 waiting_other thread caller act.Yield differs = refl
@@ -158,7 +158,7 @@ waiting_other thread caller act.ThreadEnd differs = refl
 waiting_other thread caller (act.ProcessEnd code) differs = refl
 waiting_other thread caller (act.Killed signal) differs = refl
 
-ended_other : (thread caller : ThreadNo) (a : Act) → thread.0 ≢ caller.0 → times_in thread (ended caller a) ≡ 0
+ended_other : (thread caller : ThreadNo) (a : Act) → thread.0 ≢ caller.0 → times_in thread (gone_by caller a) ≡ 0
 ended_other thread caller act.ThreadEnd differs = one_other thread caller differs
 ended_other thread caller (act.ProcessEnd code) differs = one_other thread caller differs
 ended_other thread caller (act.Wait addr) differs = refl
@@ -169,8 +169,8 @@ ended_other thread caller (act.Output fd bytes) differs = refl
 ended_other thread caller (act.Killed signal) differs = refl
 
 -- an act that stops the caller's thread doesn't end it
-waits_or_ends : (thread caller : ThreadNo) (a : Act) → (times_in thread (waiting caller a) ≡ 0)
-    ⊎ ((times_in thread (ended caller a) ≡ 0) × (times_in thread (waiting caller a) ≤ 1))
+waits_or_ends : (thread caller : ThreadNo) (a : Act) → (times_in thread (waiters_by caller a) ≡ 0)
+    ⊎ ((times_in thread (gone_by caller a) ≡ 0) × (times_in thread (waiters_by caller a) ≤ 1))
 waits_or_ends thread caller (act.Wait addr) = inr (refl, at_most_one thread caller)
 waits_or_ends thread caller act.Answer = inl refl
 waits_or_ends thread caller act.Yield = inl refl
@@ -180,7 +180,7 @@ waits_or_ends thread caller act.ThreadEnd = inl refl
 waits_or_ends thread caller (act.ProcessEnd code) = inl refl
 waits_or_ends thread caller (act.Killed signal) = inl refl
 
-pub lives_after : (caller : ThreadNo) (old : Sys) (e : Effect) (new : Sys) → IsBalanced caller old e new
+pub lives_after : (caller : ThreadNo) (old : Kernel) (e : Effect) (new : Kernel) → IsBalanced caller old e new
     → EachWaiterLives old.guest.threads old.waits → times_waiting caller old.waits ≡ 0
     → 1 ≤ times_live caller old.guest.threads
     → EachWaiterLives new.guest.threads new.waits

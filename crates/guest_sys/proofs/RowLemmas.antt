@@ -16,7 +16,7 @@ use Rattle.guest_mem.specs.Memory.{bytes_of}
 use Rattle.guest_sys.specs.declared.table.CallNumber.{CallNumber}
 use Rattle.guest_sys.specs.declared.table.Row.{Row}
 use Rattle.guest_sys.specs.Table.{call_table, row_at, row_in}
-use Rattle.guest_sys.specs.Vectors.{counting}
+use Rattle.guest_sys.specs.Vectors.{addresses_from}
 
 abbrev pub zipped : List CallNumber → List Row → List (ℕ × Row)
 zipped [] rows = []
@@ -72,25 +72,25 @@ to_le_bytes-8 v =
     λ i. v % 256 ∷ v / 256 % 256 ∷ third i % 256 ∷ fourth i % 256 ∷ fifth i % 256 ∷ sixth i % 256 ∷ seventh i % 256 ∷
     eighth i % 256 ∷ []
 
-pub length-counting : (a n : ℕ) → length (counting a n) ≡ n
-unfolding counting
+pub length-counting : (a n : ℕ) → length (addresses_from a n) ≡ n
+unfolding addresses_from
 length-counting a zero = refl
 length-counting a (suc n) = ap (λ k. suc k) (length-counting (a + 1) n)
 
-pub get_or-counting : (a n k : ℕ) → k < n → get_or (counting a n) k 0 ≡ a + k
-unfolding counting
+pub get_or-counting : (a n k : ℕ) → k < n → get_or (addresses_from a n) k 0 ≡ a + k
+unfolding addresses_from
 get_or-counting a zero k h = absurd (omega arith)
 get_or-counting a (suc n) zero h = omega arith
 get_or-counting a (suc n) (suc k) h = get_or-counting (a + 1) n k (omega arith) ∙ omega arith
 
 pub counting_by_index : (xs : List ℕ) (n : ℕ) → length xs ≡ n → ((k : ℕ) → k < n → get_or xs k 0 ≡ k)
-    → xs ≡ counting 0 n
+    → xs ≡ addresses_from 0 n
 counting_by_index xs n len each =
-    same_number_lists xs (counting 0 n) (len ∙ sym (length-counting 0 n))
+    same_number_lists xs (addresses_from 0 n) (len ∙ sym (length-counting 0 n))
     (λ k h. omega (arith, each k (omega arith), get_or-counting 0 n k (omega arith)))
 
-pub take-counting : (a n k : ℕ) → k ≤ n → take k (counting a n) ≡ counting a k
-unfolding counting
+pub take-counting : (a n k : ℕ) → k ≤ n → take k (addresses_from a n) ≡ addresses_from a k
+unfolding addresses_from
 take-counting a n zero h = refl
 take-counting a zero (suc k) h = absurd (omega arith)
 take-counting a (suc n) (suc k) h = ap (λ xs. a ∷ xs) (take-counting (a + 1) n k (omega arith))

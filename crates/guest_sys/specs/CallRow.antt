@@ -3,7 +3,7 @@ use Rattle.std.specs.Prelude.{◌≡◌, ℕ, ◌==◌, List, Option, Some, None
 use Rattle.std.specs.Option.{option_map, option_and_then}
 use Rattle.event_costs.specs.declared.numbers.ThreadNo.{ThreadNo}
 use Rattle.guest_load.specs.declared.thread.Thread.{Thread}
-use Rattle.guest_sys.specs.Sys.{Sys}
+use Rattle.guest_sys.specs.Kernel.{Kernel}
 use Rattle.guest_sys.specs.Common.{answers, error_of, enotty, espipe, number, with_waits}
 use Rattle.guest_sys.specs.Simple.{on_stream, absent, accepted, process, thread_number, sched_yield, mremap, clone3}
 use Rattle.guest_sys.specs.Streams.{read, write}
@@ -22,7 +22,7 @@ use Rattle.guest_sys.specs.declared.table.Row.{Row}
 use Rattle.guest_sys.specs.declared.table.Row.TheVariants as row
 
 -- no stream is a terminal or has a place to go to, and each stays open
-abbrev pub row_does : Row → Sys → Caller → Option (Effect × Sys)
+abbrev pub row_does : Row → Kernel → Caller → Option (Effect × Kernel)
 row_does row.Ioctl s c = with_waits s.waits (answers s.guest c (on_stream c (error_of enotty)))
 row_does row.Absent s c = with_waits s.waits (absent s.guest c)
 row_does row.Close s c = with_waits s.waits (answers s.guest c (on_stream c 0))
@@ -53,9 +53,9 @@ row_does row.ClockGettime s c = with_waits s.waits (clock_gettime s.guest c)
 row_does row.Clone3 s c = with_waits s.waits (clone3 s.guest c)
 
 -- what the row of a number does, if there is one
-abbrev pub called : Option Row → Sys → Caller → Option (Effect × Sys)
-called None s c = None
-called (Some r) s c = row_does r s c
+abbrev pub row_effect : Option Row → Kernel → Caller → Option (Effect × Kernel)
+row_effect None s c = None
+row_effect (Some r) s c = row_does r s c
 
 -- the thread of a number, with its place among the live ones
 abbrev pub caller_at : List Thread → ℕ → Option Caller
@@ -65,24 +65,24 @@ unfoldable pub caller_of : ThreadNo → List Thread → Option Caller
 caller_of thread threads = option_and_then (caller_at threads) (position (λ t. t.no.0 == thread.0) threads)
 
 -- the effect and the kernel after it; else the number of the call, which is unsupported
-abbrev pub supported : ℕ → Option (Effect × Sys) → Result (Effect × Sys) ℕ
-supported n (Some p) = Ok p
-supported n None = Err n
+abbrev pub or_unsupported : ℕ → Option (Effect × Kernel) → Result (Effect × Kernel) ℕ
+or_unsupported n (Some p) = Ok p
+or_unsupported n None = Err n
 
 -- the row of a call that a caller makes
-unfoldable pub row_for : Sys → Caller → Result (Effect × Sys) ℕ
-row_for s c = supported (number c) (called (row_at (number c)) s c)
+unfoldable pub row_for : Kernel → Caller → Result (Effect × Kernel) ℕ
+row_for s c = or_unsupported (number c) (row_effect (row_at (number c)) s c)
 
-abbrev pub row_by : Sys → Option Caller → Result (Effect × Sys) ℕ
+abbrev pub row_by : Kernel → Option Caller → Result (Effect × Kernel) ℕ
 row_by s None = Err 0
 row_by s (Some c) = row_for s c
 
 -- the row of the call that a live thread makes: its registers and the kernel say all
-unfoldable pub call_row : Sys → ThreadNo → Result (Effect × Sys) ℕ
+unfoldable pub call_row : Kernel → ThreadNo → Result (Effect × Kernel) ℕ
 call_row s thread = row_by s (caller_of thread s.guest.threads)
 
 -- What a call answers and leaves is its row's; or it found no memory, and all is as before.
-abbrev pub Calls : Result (Effect × Sys) ℕ → Sys → Result Effect SysEnd → Sys → Type 0
+abbrev pub Calls : Result (Effect × Kernel) ℕ → Kernel → Result Effect SysEnd → Kernel → Type 0
 Calls step old (Ok effect) new = step ≡ Ok (effect, new)
 Calls step old (Err (Unsupported n)) new = (step ≡ Err n) × (new ≡ old)
 Calls step old (Err (OutOfMemory _)) new = new ≡ old

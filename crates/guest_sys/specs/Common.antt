@@ -2,9 +2,9 @@
 use Rattle.std.specs.Prelude.{◌≡◌, ℕ, ◌+◌, ◌-◌, ◌%◌, ◌^◌, List, [], Option, Some, None, Result, Ok, Err, slice_get}
 use Rattle.std.specs.Prelude.{slice_index, slice_set}
 use Rattle.guest_load.specs.declared.thread.Thread.{Thread}
-use Rattle.guest_load.specs.State.{State}
+use Rattle.guest_load.specs.Guest.{Guest}
 use Rattle.guest_futex.specs.declared.queue.Wait.{Wait}
-use Rattle.guest_sys.specs.Sys.{Sys, sys}
+use Rattle.guest_sys.specs.Kernel.{Kernel, kernel_of}
 use Rattle.guest_sys.specs.declared.caller.Caller.{Caller}
 use Rattle.guest_sys.specs.declared.effect.Act.{Act}
 use Rattle.guest_sys.specs.declared.effect.Act.TheVariants as act
@@ -20,48 +20,48 @@ abbrev pub argument : ℕ → Caller → ℕ
 argument k c = slice_index c.thread.regs.x (10 + k)
 
 -- the caller stands at its place among the live threads
-abbrev pub IsCaller : State → Caller → Type 0
+abbrev pub IsCaller : Guest → Caller → Type 0
 IsCaller g c = slice_get g.threads c.place ≡ Some c.thread
 
 -- the thread once its call is answered: the answer is in a0, and the thread stands at the next instruction
-abbrev pub resumed : Thread → ℕ → Thread
-resumed t value = record {
+abbrev pub resume : Thread → ℕ → Thread
+resume t value = record {
   no = t.no;
   regs = record { pc = (t.regs.pc + 4) % 2 ^ 32; x = slice_set t.regs.x 10 value };
   clear = t.clear;
 }
 
 -- the guest with the caller as it is now
-abbrev pub with_caller : State → Caller → Thread → State
+abbrev pub with_caller : Guest → Caller → Thread → Guest
 with_caller g c t = record g { threads = slice_set g.threads c.place t }
 
-abbrev pub settled : State → Caller → ℕ → State
-settled g c value = with_caller g c (resumed c.thread value)
+abbrev pub settle : Guest → Caller → ℕ → Guest
+settle g c value = with_caller g c (resume c.thread value)
 
 -- an effect that wakes nobody
-abbrev pub quiet : Act → Effect
-quiet a = record { act = a; woken = [] }
+abbrev pub quiet_effect : Act → Effect
+quiet_effect a = record { act = a; woken = [] }
 
 -- What a row gives: the effect and the guest after it, or nothing where the row doesn't name the arguments.
 
 -- the call does this, and the caller goes on with the value
-abbrev pub does : State → Caller → Act → ℕ → Option (Effect × State)
-does g c a value = Some (quiet a, settled g c value)
+abbrev pub does : Guest → Caller → Act → ℕ → Option (Effect × Guest)
+does g c a value = Some (quiet_effect a, settle g c value)
 
-abbrev pub answers : State → Caller → ℕ → Option (Effect × State)
+abbrev pub answers : Guest → Caller → ℕ → Option (Effect × Guest)
 answers g c value = does g c act.Answer value
 
 -- an error is answered as its negative, in two's complement
 abbrev pub error_of : ℕ → ℕ
 error_of errno = 2 ^ 32 - errno
 
-abbrev pub refuses : State → Caller → ℕ → Option (Effect × State)
+abbrev pub refuses : Guest → Caller → ℕ → Option (Effect × Guest)
 refuses g c errno = answers g c (error_of errno)
 
 -- the same over the whole kernel, where those that wait stay as they are
-abbrev pub with_waits : List Wait → Option (Effect × State) → Option (Effect × Sys)
+abbrev pub with_waits : List Wait → Option (Effect × Guest) → Option (Effect × Kernel)
 with_waits waits None = None
-with_waits waits (Some p) = Some (p.0, sys p.1 waits)
+with_waits waits (Some p) = Some (p.0, kernel_of p.1 waits)
 
 -- what holds where a call found no memory
 abbrev pub WhereRefused : Result Effect SysEnd → Type 0 → Type 0

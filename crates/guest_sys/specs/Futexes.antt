@@ -1,9 +1,9 @@
 -- futex(addr, op, val, a3, addr2, val3): waiting at words of memory.
 use Rattle.std.specs.Prelude.{ℕ, ◌%◌, ◌==◌, ◌&&◌, Bool, bit_and, length, if◌then◌else◌, Option, Some, None}
-use Rattle.guest_mem.specs.Memory.{loaded}
-use Rattle.guest_futex.specs.Waits.{queued, woken, still, moved}
-use Rattle.guest_sys.specs.Sys.{Sys, sys}
-use Rattle.guest_sys.specs.Common.{argument, settled, quiet, refuses, with_waits, eagain, efault, einval}
+use Rattle.guest_mem.specs.Memory.{load_at}
+use Rattle.guest_futex.specs.Waits.{enqueue, woken_at, without_woken, requeue_at}
+use Rattle.guest_sys.specs.Kernel.{Kernel, kernel_of}
+use Rattle.guest_sys.specs.Common.{argument, settle, quiet_effect, refuses, with_waits, eagain, efault, einval}
 use Rattle.guest_sys.specs.declared.caller.Caller.{Caller}
 use Rattle.guest_sys.specs.declared.effect.Act.TheVariants as act
 use Rattle.guest_sys.specs.declared.effect.Effect.{Effect}
@@ -25,8 +25,8 @@ abbrev pub when : Bool → Operation → Option Operation
 when holds op = if holds then Some op else None
 
 -- WAIT, WAKE, REQUEUE, WAIT_BITSET and WAKE_BITSET
-abbrev pub asked : Caller → Option Operation
-asked c =
+abbrev pub operation_of : Caller → Option Operation
+operation_of c =
     if operation_number c == 0 then when (no_timeout c) Wait
     else if operation_number c == 1 then Some Wake
     else if operation_number c == 3 then Some Requeue
@@ -34,36 +34,36 @@ asked c =
     else if operation_number c == 10 then when (any_bit c) Wake
     else None
 
-abbrev pub refuses_wait : Sys → Caller → ℕ → Option (Effect × Sys)
+abbrev pub refuses_wait : Kernel → Caller → ℕ → Option (Effect × Kernel)
 refuses_wait s c errno = with_waits s.waits (refuses s.guest c errno)
 
 -- the caller waits at the word, and its answer is 0 once it is woken
-abbrev pub begins_wait : Sys → Caller → Option (Effect × Sys)
+abbrev pub begins_wait : Kernel → Caller → Option (Effect × Kernel)
 begins_wait s c =
-    Some (quiet (act.Wait (argument 0 c)), sys (settled s.guest c 0) (queued c.thread.no (argument 0 c) s.waits))
+    Some (quiet_effect (act.Wait (argument 0 c)), kernel_of (settle s.guest c 0) (enqueue c.thread.no (argument 0 c) s.waits))
 
 -- a wait looks at the word first
-abbrev pub waits_on : Sys → Caller → Option ℕ → Option (Effect × Sys)
+abbrev pub waits_on : Kernel → Caller → Option ℕ → Option (Effect × Kernel)
 waits_on s c None = refuses_wait s c efault
 waits_on s c (Some word) = if word == argument 2 c then begins_wait s c else refuses_wait s c eagain
 
 -- the first val waiters are woken, or all; their number
-abbrev pub wakes : Sys → Caller → Option (Effect × Sys)
+abbrev pub wakes : Kernel → Caller → Option (Effect × Kernel)
 wakes s c =
-    let threads = woken (argument 0 c) (argument 2 c) s.waits in
+    let threads = woken_at (argument 0 c) (argument 2 c) s.waits in
     Some (
       record { act = act.Answer; woken = threads },
-      sys (settled s.guest c (length threads)) (still (argument 0 c) (argument 2 c) s.waits),
+      kernel_of (settle s.guest c (length threads)) (without_woken (argument 0 c) (argument 2 c) s.waits),
     )
 
 -- the same, and the first a3 of the rest are moved to addr2
-abbrev pub requeues : Sys → Caller → Option (Effect × Sys)
+abbrev pub requeues : Kernel → Caller → Option (Effect × Kernel)
 requeues s c =
-    let threads = woken (argument 0 c) (argument 2 c) s.waits in
+    let threads = woken_at (argument 0 c) (argument 2 c) s.waits in
     Some (
       record { act = act.Answer; woken = threads },
-      sys (settled s.guest c (length threads))
-          (moved (argument 0 c) (argument 3 c) (argument 4 c) (still (argument 0 c) (argument 2 c) s.waits)),
+      kernel_of (settle s.guest c (length threads))
+          (requeue_at (argument 0 c) (argument 3 c) (argument 4 c) (without_woken (argument 0 c) (argument 2 c) s.waits)),
     )
 
 abbrev pub is_word : ℕ → Bool
@@ -74,14 +74,14 @@ on_words Wait c = is_word (argument 0 c)
 on_words Wake c = is_word (argument 0 c)
 on_words Requeue c = is_word (argument 0 c) && is_word (argument 4 c)
 
-abbrev pub performs : Operation → Sys → Caller → Option (Effect × Sys)
-performs Wait s c = waits_on s c (loaded s.guest.mem 1 (argument 0 c) 4)
+abbrev pub performs : Operation → Kernel → Caller → Option (Effect × Kernel)
+performs Wait s c = waits_on s c (load_at s.guest.mem 1 (argument 0 c) 4)
 performs Wake s c = wakes s c
 performs Requeue s c = requeues s c
 
-abbrev pub performed : Option Operation → Sys → Caller → Option (Effect × Sys)
-performed None s c = None
-performed (Some op) s c = if on_words op c then performs op s c else refuses_wait s c einval
+abbrev pub operation_effect : Option Operation → Kernel → Caller → Option (Effect × Kernel)
+operation_effect None s c = None
+operation_effect (Some op) s c = if on_words op c then performs op s c else refuses_wait s c einval
 
-unfoldable pub futex : Sys → Caller → Option (Effect × Sys)
-futex s c = performed (asked c) s c
+unfoldable pub futex : Kernel → Caller → Option (Effect × Kernel)
+futex s c = operation_effect (operation_of c) s c

@@ -2,7 +2,7 @@
 use Rattle.std.specs.Prelude.{◌≡◌, ℕ, ◌+◌, ◌≤◌, ◌==◌, List, [], ◌∷◌, count_by}
 use Rattle.event_costs.specs.declared.numbers.ThreadNo.{ThreadNo}
 use Rattle.guest_futex.specs.Waits.{times_waiting}
-use Rattle.guest_sys.specs.Sys.{Sys, times_live}
+use Rattle.guest_sys.specs.Kernel.{Kernel, times_live}
 use Rattle.guest_sys.specs.declared.effect.Act.{Act}
 use Rattle.guest_sys.specs.declared.effect.Act.TheVariants as act
 use Rattle.guest_sys.specs.declared.effect.Effect.{Effect}
@@ -12,32 +12,32 @@ abbrev pub times_in : ThreadNo → List ThreadNo → ℕ
 times_in thread threads = count_by (λ t. t.0 == thread.0) threads
 
 -- the thread that begins to wait, that was made, and that has ended with this act
-abbrev pub waiting : ThreadNo → Act → List ThreadNo
-waiting caller (act.Wait addr) = caller ∷ []
-waiting caller _ = []
+abbrev pub waiters_by : ThreadNo → Act → List ThreadNo
+waiters_by caller (act.Wait addr) = caller ∷ []
+waiters_by caller _ = []
 
-abbrev pub made : Act → List ThreadNo
-made (act.Spawn thread) = thread ∷ []
-made _ = []
+abbrev pub spawned_by : Act → List ThreadNo
+spawned_by (act.Spawn thread) = thread ∷ []
+spawned_by _ = []
 
-abbrev pub ended : ThreadNo → Act → List ThreadNo
-ended caller act.ThreadEnd = caller ∷ []
-ended caller (act.ProcessEnd code) = caller ∷ []
-ended caller _ = []
+abbrev pub gone_by : ThreadNo → Act → List ThreadNo
+gone_by caller act.ThreadEnd = caller ∷ []
+gone_by caller (act.ProcessEnd code) = caller ∷ []
+gone_by caller _ = []
 
 -- Who waited and didn't begin to wait waits still or was woken; who lived or was made lives still or has ended.
-pub record IsBalanced (caller : ThreadNo) (old : Sys) (effect : Effect) (new : Sys) : Type 0 where
+pub record IsBalanced (caller : ThreadNo) (old : Kernel) (effect : Effect) (new : Kernel) : Type 0 where
   pub waits : (thread : ThreadNo)
       → times_waiting thread new.waits + times_in thread effect.woken
-      ≡ times_waiting thread old.waits + times_in thread (waiting caller effect.act)
+      ≡ times_waiting thread old.waits + times_in thread (waiters_by caller effect.act)
   pub lives : (thread : ThreadNo)
-      → times_live thread old.guest.threads + times_in thread (made effect.act) ≤ times_live thread new.guest.threads
-      + times_in thread (ended caller effect.act)
+      → times_live thread old.guest.threads + times_in thread (spawned_by effect.act) ≤ times_live thread new.guest.threads
+      + times_in thread (gone_by caller effect.act)
   pub bounded : (thread : ThreadNo)
-      → times_live thread new.guest.threads ≤ times_live thread old.guest.threads + times_in thread (made effect.act)
+      → times_live thread new.guest.threads ≤ times_live thread old.guest.threads + times_in thread (spawned_by effect.act)
   pub steps : new.guest.steps ≡ old.guest.steps
 
 -- an exit of the whole process and a kill change nothing
-abbrev pub ChangesNothing : Act → Sys → Sys → Type 0
+abbrev pub ChangesNothing : Act → Kernel → Kernel → Type 0
 ChangesNothing (act.Killed signal) old new = new ≡ old
 ChangesNothing _ old new = Unit {0}

@@ -8,7 +8,7 @@ pub mod Reaching
 pub mod Signals
 pub mod Simple
 pub mod Streams
-pub mod Sys
+pub mod Kernel
 pub mod Table
 pub mod Taking
 pub mod Threads

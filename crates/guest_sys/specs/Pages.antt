@@ -1,9 +1,9 @@
 -- The break, and the mapping of pages of 4,096 bytes.
 use Rattle.std.specs.Prelude.{ℕ, zero, suc, ◌+◌, ◌-◌, ◌*◌, ◌/◌, ◌%◌, ◌^◌, ◌==◌, ◌&&◌, Bool, true, not, nat_lt, nat_le}
 use Rattle.std.specs.Prelude.{bit_and, if◌then◌else◌, Option, Some, None}
-use Rattle.guest_mem.specs.Memory.{Memory, zeroed, unmapped, protected, page_limit, page_mapped, pages_mapped}
+use Rattle.guest_mem.specs.Memory.{Memory, zero_range, unmap_at, protect_at, page_limit, page_mapped, pages_mapped}
 use Rattle.guest_mem.specs.Memory.{page_count}
-use Rattle.guest_load.specs.State.{State}
+use Rattle.guest_load.specs.Guest.{Guest}
 use Rattle.guest_sys.specs.Common.{argument, answers, refuses, enomem, einval}
 use Rattle.guest_sys.specs.declared.caller.Caller.{Caller}
 use Rattle.guest_sys.specs.declared.effect.Effect.{Effect}
@@ -20,30 +20,30 @@ page_end a = pages_for a * 4096
 abbrev pub too_many : Memory → Bool
 too_many m = nat_lt page_limit (page_count m)
 
-abbrev pub with_memory : State → Memory → State
+abbrev pub with_memory : Guest → Memory → Guest
 with_memory g mem = record g { mem = mem }
 
 -- ---- the break
 
-abbrev pub with_break : State → Memory → ℕ → State
+abbrev pub with_break : Guest → Memory → ℕ → Guest
 with_break g mem a = record g { mem = mem; now_break = a }
 
 -- the pages from the old break's to the new one's, as zeros that may be read and written
-abbrev pub grown : State → ℕ → Memory
-grown g a = zeroed g.mem (page_end g.now_break) (page_end a - page_end g.now_break) 3
+abbrev pub grown_memory : Guest → ℕ → Memory
+grown_memory g a = zero_range g.mem (page_end g.now_break) (page_end a - page_end g.now_break) 3
 
 -- without the pages from the new break's to the old one's
-abbrev pub shrunk : State → ℕ → Memory
-shrunk g a = unmapped g.mem (page_end a) (page_end g.now_break - page_end a)
+abbrev pub shrunk_memory : Guest → ℕ → Memory
+shrunk_memory g a = unmap_at g.mem (page_end a) (page_end g.now_break - page_end a)
 
-abbrev pub break_moved : State → Caller → ℕ → Option (Effect × State)
+abbrev pub break_moved : Guest → Caller → ℕ → Option (Effect × Guest)
 break_moved g c a =
     if nat_lt (page_end g.now_break) (page_end a)
-    then (if too_many (grown g a) then answers g c g.now_break else answers (with_break g (grown g a) a) c a)
-    else answers (with_break g (shrunk g a) a) c a
+    then (if too_many (grown_memory g a) then answers g c g.now_break else answers (with_break g (grown_memory g a) a) c a)
+    else answers (with_break g (shrunk_memory g a) a) c a
 
 -- brk(a): the break is a, where a is in bounds and there are pages for it; the break is answered
-unfoldable pub brk : State → Caller → Option (Effect × State)
+unfoldable pub brk : Guest → Caller → Option (Effect × Guest)
 brk g c =
     if nat_le g.first_break (argument 0 c) && nat_le (argument 0 c) 0x4000_0000
     then break_moved g c (argument 0 c)
@@ -56,18 +56,18 @@ abbrev pub is_range : ℕ → ℕ → Bool
 is_range a n = (a % 4096 == 0) && nat_le (a + n) (2 ^ 32)
 
 -- munmap(a, n): the pages that the range touches are unmapped
-unfoldable pub munmap : State → Caller → Option (Effect × State)
+unfoldable pub munmap : Guest → Caller → Option (Effect × Guest)
 munmap g c =
     if is_range (argument 0 c) (argument 1 c) && not (argument 1 c == 0)
-    then answers (with_memory g (unmapped g.mem (argument 0 c) (page_end (argument 1 c)))) c 0
+    then answers (with_memory g (unmap_at g.mem (argument 0 c) (page_end (argument 1 c)))) c 0
     else refuses g c einval
 
 -- mprotect(a, n, prot): the pages that the range touches, all of them mapped, get the permission
-unfoldable pub mprotect : State → Caller → Option (Effect × State)
+unfoldable pub mprotect : Guest → Caller → Option (Effect × Guest)
 mprotect g c =
     if is_range (argument 0 c) (argument 1 c)
     then (if pages_mapped g.mem (argument 0 c) (pages_for (argument 1 c))
-    then answers (with_memory g (protected g.mem (argument 0 c) (page_end (argument 1 c)) (argument 2 c % 8))) c 0
+    then answers (with_memory g (protect_at g.mem (argument 0 c) (page_end (argument 1 c)) (argument 2 c % 8))) c 0
     else refuses g c enomem)
     else refuses g c einval
 
@@ -95,17 +95,17 @@ lowest_free m n = least (fits m n) 0x40000 0x3f000
 abbrev pub is_private : ℕ → Bool
 is_private flags = bit_and flags 0x33 == 0x22
 
-abbrev pub mapped_at : State → Caller → ℕ → Memory
-mapped_at g c page = zeroed g.mem (page * 4096) (page_end (argument 1 c)) (argument 2 c % 8)
+abbrev pub mapped_at : Guest → Caller → ℕ → Memory
+mapped_at g c page = zero_range g.mem (page * 4096) (page_end (argument 1 c)) (argument 2 c % 8)
 
-abbrev pub maps : State → Caller → Option ℕ → Option (Effect × State)
+abbrev pub maps : Guest → Caller → Option ℕ → Option (Effect × Guest)
 maps g c None = refuses g c enomem
 maps g c (Some page) =
     if too_many (mapped_at g c page) then refuses g c enomem
     else answers (with_memory g (mapped_at g c page)) c (page * 4096)
 
 -- mmap(a, n, prot, flags, fd, off): the lowest free range of whole pages is mapped as zeros
-unfoldable pub mmap : State → Caller → Option (Effect × State)
+unfoldable pub mmap : Guest → Caller → Option (Effect × Guest)
 mmap g c =
     if is_private (argument 3 c)
     then (if argument 1 c == 0 then refuses g c einval else maps g c (lowest_free g.mem (pages_for (argument 1 c))))

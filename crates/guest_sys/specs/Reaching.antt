@@ -1,7 +1,7 @@
 -- Where a system call may change memory, as its arguments tell.
 use Rattle.std.specs.Prelude.{◌≡◌, ℕ, ◌+◌, ◌<◌, ◌≤◌, ◌^◌, ◌⊎◌}
-use Rattle.guest_mem.specs.Memory.{Memory, loaded}
-use Rattle.guest_load.specs.State.{State}
+use Rattle.guest_mem.specs.Memory.{Memory, load_at}
+use Rattle.guest_load.specs.Guest.{Guest}
 use Rattle.guest_sys.specs.Common.{argument}
 use Rattle.guest_sys.specs.Pages.{page_end}
 use Rattle.guest_sys.specs.declared.caller.Caller.{Caller}
@@ -16,7 +16,7 @@ bytes_from a n = record { address = a; bytes = n }
 abbrev pub all_from : ℕ → Reach
 all_from a = bytes_from a 0x1_0000_0000
 
-abbrev pub reach_of : Row → State → Caller → Reach
+abbrev pub reach_of : Row → Guest → Caller → Reach
 reach_of row.Read g c = bytes_from (argument 1 c) (argument 2 c)
 reach_of row.ClockGettime g c = bytes_from (argument 1 c) 16
 reach_of row.Getrandom g c = bytes_from (argument 0 c) 256
@@ -33,4 +33,4 @@ reach_of _ g c = bytes_from 0 0
 abbrev pub IsWithin : Reach → Memory → Memory → Type 0
 IsWithin reach old new = (want other width : ℕ) → 1 ≤ width → other < 2 ^ 32
     → (other + width ≤ reach.address) ⊎ (reach.address + reach.bytes ≤ other)
-    → loaded new want other width ≡ loaded old want other width
+    → load_at new want other width ≡ load_at old want other width

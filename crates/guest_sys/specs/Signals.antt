@@ -1,33 +1,33 @@
 -- kill, tkill and tgkill: a signal kills the guest, whose one process is 1.
 use Rattle.std.specs.Prelude.{ℕ, ◌==◌, ◌&&◌, Bool, nat_le, if◌then◌else◌, Option, Some, None}
 use Rattle.std.specs.List.{list_any}
-use Rattle.guest_load.specs.State.{State}
-use Rattle.guest_sys.specs.Common.{argument, answers, refuses, quiet, einval}
+use Rattle.guest_load.specs.Guest.{Guest}
+use Rattle.guest_sys.specs.Common.{argument, answers, refuses, quiet_effect, einval}
 use Rattle.guest_sys.specs.declared.caller.Caller.{Caller}
 use Rattle.guest_sys.specs.declared.effect.Act.TheVariants as act
 use Rattle.guest_sys.specs.declared.effect.Effect.{Effect}
 
 -- the signal 0 asks whether it could be sent; there are 64 signals. A kill changes nothing
-abbrev pub signalled : State → Caller → ℕ → Option (Effect × State)
-signalled g c signal =
+abbrev pub signal_effect : Guest → Caller → ℕ → Option (Effect × Guest)
+signal_effect g c signal =
     if signal == 0 then answers g c 0
-    else if nat_le signal 64 then Some (quiet (act.Killed signal), g)
+    else if nat_le signal 64 then Some (quiet_effect (act.Killed signal), g)
     else refuses g c einval
 
-abbrev pub is_live : State → ℕ → Bool
+abbrev pub is_live : Guest → ℕ → Bool
 is_live g thread = list_any (λ t. t.no.0 == thread) g.threads
 
-abbrev pub signalled_where : Bool → State → Caller → ℕ → Option (Effect × State)
-signalled_where holds g c signal = if holds then signalled g c signal else None
+abbrev pub signal_effect_where : Bool → Guest → Caller → ℕ → Option (Effect × Guest)
+signal_effect_where holds g c signal = if holds then signal_effect g c signal else None
 
 -- kill(p, s): the process, or the processes of its group, which is 0
-unfoldable pub kill : State → Caller → Option (Effect × State)
-kill g c = signalled_where (nat_le (argument 0 c) 1) g c (argument 1 c)
+unfoldable pub kill : Guest → Caller → Option (Effect × Guest)
+kill g c = signal_effect_where (nat_le (argument 0 c) 1) g c (argument 1 c)
 
 -- tkill(t, s)
-unfoldable pub tkill : State → Caller → Option (Effect × State)
-tkill g c = signalled_where (is_live g (argument 0 c)) g c (argument 1 c)
+unfoldable pub tkill : Guest → Caller → Option (Effect × Guest)
+tkill g c = signal_effect_where (is_live g (argument 0 c)) g c (argument 1 c)
 
 -- tgkill(p, t, s)
-unfoldable pub tgkill : State → Caller → Option (Effect × State)
-tgkill g c = signalled_where ((argument 0 c == 1) && is_live g (argument 1 c)) g c (argument 2 c)
+unfoldable pub tgkill : Guest → Caller → Option (Effect × Guest)
+tgkill g c = signal_effect_where ((argument 0 c == 1) && is_live g (argument 1 c)) g c (argument 2 c)

@@ -1,32 +1,32 @@
 -- read and write: the input is descriptor 0, the output 1 and 2.
 use Rattle.std.specs.Prelude.{ℕ, ◌+◌, ◌-◌, ◌==◌, ◌||◌, Bool, min, List, length, take, drop, if◌then◌else◌, Option}
-use Rattle.guest_mem.specs.Memory.{Memory, may, bytes_at, stored}
-use Rattle.guest_load.specs.State.{State}
+use Rattle.guest_mem.specs.Memory.{Memory, may, bytes_at, store_at}
+use Rattle.guest_load.specs.Guest.{Guest}
 use Rattle.guest_sys.specs.Common.{argument, does, answers, refuses, ebadf, efault}
 use Rattle.guest_sys.specs.declared.caller.Caller.{Caller}
 use Rattle.guest_sys.specs.declared.effect.Act.TheVariants as act
 use Rattle.guest_sys.specs.declared.effect.Effect.{Effect}
 
 -- the input that is left
-abbrev pub input_left : State → List ℕ
+abbrev pub input_left : Guest → List ℕ
 input_left g = drop g.place g.input
 
-abbrev pub left : State → ℕ
-left g = length g.input - g.place
+abbrev pub input_left_len : Guest → ℕ
+input_left_len g = length g.input - g.place
 
 -- the guest once k bytes of its input are in memory
-abbrev pub consumed : State → ℕ → Memory → State
-consumed g k mem = record g { mem = mem; place = g.place + k }
+abbrev pub consume_input : Guest → ℕ → Memory → Guest
+consume_input g k mem = record g { mem = mem; place = g.place + k }
 
-abbrev pub read_count : State → Caller → ℕ
-read_count g c = min (argument 2 c) (left g)
+abbrev pub read_count : Guest → Caller → ℕ
+read_count g c = min (argument 2 c) (input_left_len g)
 
 -- read(fd, buf, n): the next bytes of the input, at most n, go to buf
-unfoldable pub read : State → Caller → Option (Effect × State)
+unfoldable pub read : Guest → Caller → Option (Effect × Guest)
 read g c =
     if argument 0 c == 0
     then (if may g.mem 2 (argument 1 c) (read_count g c)
-    then answers (consumed g (read_count g c) (stored g.mem (argument 1 c) (take (read_count g c) (input_left g)))) c
+    then answers (consume_input g (read_count g c) (store_at g.mem (argument 1 c) (take (read_count g c) (input_left g)))) c
     (read_count g c)
     else refuses g c efault)
     else refuses g c ebadf
@@ -42,7 +42,7 @@ abbrev pub write_count : Caller → ℕ
 write_count c = min (argument 2 c) write_limit
 
 -- write(fd, buf, n): the bytes from buf on, at most n, are output
-unfoldable pub write : State → Caller → Option (Effect × State)
+unfoldable pub write : Guest → Caller → Option (Effect × Guest)
 write g c =
     if is_output (argument 0 c)
     then (if may g.mem 1 (argument 1 c) (write_count c)

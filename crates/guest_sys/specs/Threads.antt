@@ -1,13 +1,13 @@
 -- The beginning and the end of threads.
 use Rattle.std.specs.Prelude.{ℕ, ◌+◌, ◌%◌, ◌==◌, ◌&&◌, ◌||◌, Bool, not, nat_le, bit_and, bit_or, List, [], ◌∷◌, ◌++◌}
 use Rattle.std.specs.Prelude.{length, remove, slice_set, if◌then◌else◌, Option, Some, None}
-use Rattle.guest_mem.specs.Memory.{Memory, may, stored, bytes_of}
+use Rattle.guest_mem.specs.Memory.{Memory, may, store_at, bytes_of}
 use Rattle.guest_load.specs.Lawful.{most_live, most_made}
-use Rattle.guest_load.specs.State.{State}
+use Rattle.guest_load.specs.Guest.{Guest}
 use Rattle.guest_load.specs.declared.thread.Thread.{Thread}
-use Rattle.guest_futex.specs.Waits.{woken, still}
-use Rattle.guest_sys.specs.Sys.{Sys, sys}
-use Rattle.guest_sys.specs.Common.{argument, resumed, with_caller, settled, quiet, refuses, eagain, efault}
+use Rattle.guest_futex.specs.Waits.{woken_at, without_woken}
+use Rattle.guest_sys.specs.Kernel.{Kernel, kernel_of}
+use Rattle.guest_sys.specs.Common.{argument, resume, with_caller, settle, quiet_effect, refuses, eagain, efault}
 use Rattle.guest_sys.specs.declared.caller.Caller.{Caller}
 use Rattle.guest_sys.specs.declared.effect.Act.{Act}
 use Rattle.guest_sys.specs.declared.effect.Act.TheVariants as act
@@ -20,31 +20,31 @@ abbrev pub is_cleared : Memory → ℕ → Bool
 is_cleared m a = not (a == 0) && (a % 4 == 0) && may m 2 a 4
 
 -- the last live thread ends the process
-abbrev pub end_act : State → Caller → Act
+abbrev pub end_act : Guest → Caller → Act
 end_act g c = if length g.threads == 1 then act.ProcessEnd (argument 0 c % 256) else act.ThreadEnd
 
-abbrev pub without_caller : State → Caller → Memory → State
+abbrev pub without_caller : Guest → Caller → Memory → Guest
 without_caller g c mem = record g { mem = mem; threads = remove g.threads c.place }
 
 -- exit(code): the thread is gone. Where it has a clear address, the word there is 0 and its first waiter is woken
-unfoldable pub exit : Sys → Caller → Option (Effect × Sys)
+unfoldable pub exit : Kernel → Caller → Option (Effect × Kernel)
 exit s c =
     if is_cleared s.guest.mem c.thread.clear
     then Some (
-      record { act = end_act s.guest c; woken = woken c.thread.clear 1 s.waits },
-      sys (without_caller s.guest c (stored s.guest.mem c.thread.clear (bytes_of 4 0)))
-          (still c.thread.clear 1 s.waits),
+      record { act = end_act s.guest c; woken = woken_at c.thread.clear 1 s.waits },
+      kernel_of (without_caller s.guest c (store_at s.guest.mem c.thread.clear (bytes_of 4 0)))
+          (without_woken c.thread.clear 1 s.waits),
     )
-    else Some (quiet (end_act s.guest c), sys (without_caller s.guest c s.guest.mem) s.waits)
+    else Some (quiet_effect (end_act s.guest c), kernel_of (without_caller s.guest c s.guest.mem) s.waits)
 
 -- exit_group(code): the process ends, and nothing changes
-abbrev pub exit_group : State → Caller → Option (Effect × State)
-exit_group g c = Some (quiet (act.ProcessEnd (argument 0 c % 256)), g)
+abbrev pub exit_group : Guest → Caller → Option (Effect × Guest)
+exit_group g c = Some (quiet_effect (act.ProcessEnd (argument 0 c % 256)), g)
 
 -- set_tid_address(p): the clear address is p; the thread's number
-abbrev pub set_tid_address : State → Caller → Option (Effect × State)
+abbrev pub set_tid_address : Guest → Caller → Option (Effect × Guest)
 set_tid_address g c =
-    Some (quiet act.Answer, with_caller g c (record (resumed c.thread c.thread.no.0) { clear = argument 0 c }))
+    Some (quiet_effect act.Answer, with_caller g c (record (resume c.thread c.thread.no.0) { clear = argument 0 c }))
 
 -- ---- beginnings: clone(flags, stack, parent, tls, child)
 
@@ -75,17 +75,17 @@ abbrev pub tells_child : Caller → Bool
 tells_child c = has_flag 0x100_0000 c
 
 -- no more threads: as many are live as may be, or as many were made
-abbrev pub is_crowded : State → Bool
+abbrev pub is_crowded : Guest → Bool
 is_crowded g = nat_le most_live (length g.threads) || nat_le most_made g.made
 
 -- a word that is told a number
 abbrev pub may_tell : Bool → Memory → ℕ → Bool
 may_tell tells m a = not tells || may m 2 a 4
 
-abbrev pub told : Bool → ℕ → ℕ → Memory → Memory
-told tells a value m = if tells then stored m a (bytes_of 4 value) else m
+abbrev pub with_number : Bool → ℕ → ℕ → Memory → Memory
+with_number tells a value m = if tells then store_at m a (bytes_of 4 value) else m
 
-abbrev pub may_tell_both : State → Caller → Bool
+abbrev pub may_tell_both : Guest → Caller → Bool
 may_tell_both g c = may_tell (tells_parent c) g.mem (argument 2 c) && may_tell (tells_child c) g.mem (argument 4 c)
 
 -- the registers of the new thread: the caller's, with 0 as answer, its own stack pointer (x2) and tls (x4)
@@ -97,7 +97,7 @@ with_tls sets tls x = if sets then slice_set x 4 tls else x
 
 abbrev pub new_thread : ℕ → Caller → Thread
 new_thread value c =
-    let after = resumed c.thread 0 in
+    let after = resume c.thread 0 in
     record {
       no = record { 0 = value };
       regs = record {
@@ -108,19 +108,19 @@ new_thread value c =
     }
 
 -- the guest with one thread more; the parent's word is written before the child's
-abbrev pub with_thread : State → Caller → ℕ → State
+abbrev pub with_thread : Guest → Caller → ℕ → Guest
 with_thread g c value = record g {
-  mem = told (tells_child c) (argument 4 c) value (told (tells_parent c) (argument 2 c) value g.mem);
+  mem = with_number (tells_child c) (argument 4 c) value (with_number (tells_parent c) (argument 2 c) value g.mem);
   threads = g.threads ++ new_thread value c ∷ [];
   made = value;
 }
 
-abbrev pub cloned : State → Caller → ℕ → Option (Effect × State)
-cloned g c value = Some (quiet (act.Spawn (record { 0 = value })), settled (with_thread g c value) c value)
+abbrev pub clone_effect : Guest → Caller → ℕ → Option (Effect × Guest)
+clone_effect g c value = Some (quiet_effect (act.Spawn (record { 0 = value })), settle (with_thread g c value) c value)
 
-unfoldable pub clone : State → Caller → Option (Effect × State)
+unfoldable pub clone : Guest → Caller → Option (Effect × Guest)
 clone g c =
     if is_thread (argument 0 c)
     then (if is_crowded g then refuses g c eagain
-    else (if may_tell_both g c then cloned g c (g.made + 1) else refuses g c efault))
+    else (if may_tell_both g c then clone_effect g c (g.made + 1) else refuses g c efault))
     else None

@@ -2,8 +2,8 @@
 
 ghost use Rattle.std.specs.Prelude.{◌≡◌, ◌<◌, ◌≤◌, ◌-◌, ◌%◌, ◌^◌, Some};
 ghost use Rattle.guest_load.specs.Lawful.{IsLawful};
-ghost use Rattle.guest_sys.specs.Common.{IsCaller, argument, answers, does, error_of, number, quiet};
-ghost use Rattle.guest_sys.specs.Common.{refuses, resumed, settled, with_caller};
+ghost use Rattle.guest_sys.specs.Common.{IsCaller, argument, answers, does, error_of, number, quiet_effect};
+ghost use Rattle.guest_sys.specs.Common.{refuses, resume, settle, with_caller};
 
 use crate::effect::{Act, Effect, SysEnd};
 use event_costs::Regs;
@@ -67,8 +67,8 @@ impl Caller {
     }
 
     /// The caller once its call is answered.
-    pub fn resumed(&self, value: u32) -> Thread
-        ensures { result ≡ resumed self.now.thread value }
+    pub fn resume(&self, value: u32) -> Thread
+        ensures { result ≡ resume self.now.thread value }
     {
         let Thread { no, regs, clear } = self.thread;
         let Regs { pc, mut x } = regs;
@@ -82,8 +82,8 @@ impl Caller {
 }
 
 /// An effect that wakes nobody.
-pub fn quiet(alloc: Global, act: Act) -> Effect
-    ensures { result ≡ quiet act }
+pub fn quiet_effect(alloc: Global, act: Act) -> Effect
+    ensures { result ≡ quiet_effect act }
 {
     let items = Vec::new(alloc);
     Effect {
@@ -95,9 +95,9 @@ pub fn quiet(alloc: Global, act: Act) -> Effect
 /// The caller goes on with this answer.
 pub fn settle(guest: &mut Guest, caller: &Caller, value: u32)
     requires { IsCaller guest.old caller.now }
-    ensures { guest.new ≡ settled guest.old caller.now value }
+    ensures { guest.new ≡ settle guest.old caller.now value }
 {
-    guest.threads[caller.place] = caller.resumed(value);
+    guest.threads[caller.place] = caller.resume(value);
 }
 
 /// The call does this, and the caller goes on with this answer.
@@ -106,7 +106,7 @@ pub fn go_on(alloc: Global, guest: &mut Guest, caller: &Caller, act: Act, value:
     ensures { Some (result, guest.new) ≡ does guest.old caller.now act value }
 {
     settle(guest, caller, value);
-    quiet(alloc, act)
+    quiet_effect(alloc, act)
 }
 
 /// The call is answered, and that is all.

@@ -1,10 +1,10 @@
 //! The clock and the random bytes.
 
 ghost use Rattle.std.specs.Prelude.{◌≡◌, ◌≤◌, Some, OnErr, is_ok};
-ghost use Rattle.guest_mem.specs.Memory.{may, stored};
+ghost use Rattle.guest_mem.specs.Memory.{may, store_at};
 ghost use Rattle.guest_sys.specs.Common.{IsCaller};
 ghost use Rattle.guest_sys.specs.Clock.{clock_gettime, getrandom, time_of};
-ghost use Rattle.guest_sys.specs.Vectors.{counting};
+ghost use Rattle.guest_sys.specs.Vectors.{addresses_from};
 
 use crate::caller::{Caller, EFAULT, answer, refuse};
 use crate::effect::Effect;
@@ -43,7 +43,7 @@ pub fn clock_gettime(alloc: Global, guest: &mut Guest, caller: &Caller) -> Effec
 
 /// The bytes from 0 to 255.
 fn random_bytes() -> [u8; 256]
-    ensures { result ≡ counting 0 256 }
+    ensures { result ≡ addresses_from 0 256 }
 {
     let mut bytes = [0; 256];
     'bytes: for place in 0..256 {
@@ -56,7 +56,7 @@ fn random_bytes() -> [u8; 256]
 fn put_random(mem: &mut GuestMem, addr: u32, count: u32) -> Result<(), Access>
     requires { count ≤ 256 }
     ensures allowed { is_ok result ≡ may mem.old 2 addr count }
-    ensures after { mem.new ≡ stored mem.old addr (counting 0 count) }
+    ensures after { mem.new ≡ store_at mem.old addr (addresses_from 0 count) }
     ensures refused { OnErr result (mem.new ≡ mem.old) }
 {
     let bytes = random_bytes();

@@ -1,15 +1,15 @@
 //! futex: waiting at words of memory.
 
 ghost use Rattle.std.specs.Prelude.{◌≡◌, ◌<◌, length};
-ghost use Rattle.guest_mem.specs.Memory.{loaded};
+ghost use Rattle.guest_mem.specs.Memory.{load_at};
 ghost use Rattle.guest_futex.specs.Waits.{times_waiting};
-ghost use Rattle.guest_sys.specs.Sys.{sys};
+ghost use Rattle.guest_sys.specs.Kernel.{kernel_of};
 ghost use Rattle.guest_sys.specs.Common.{IsCaller, argument, number};
 ghost use Rattle.guest_sys.specs.inner.Bodies.{Gives};
-ghost use Rattle.guest_sys.specs.Futexes.{asked, futex, on_words, requeues, waits_on, wakes};
+ghost use Rattle.guest_sys.specs.Futexes.{operation_of, futex, on_words, requeues, waits_on, wakes};
 ghost use Rattle.guest_sys.specs.Taking.{FutexTakes, WaitTakes, WakeTakes};
 
-use crate::caller::{Caller, EAGAIN, EFAULT, EINVAL, quiet, refuse, settle};
+use crate::caller::{Caller, EAGAIN, EFAULT, EINVAL, quiet_effect, refuse, settle};
 use crate::effect::{Act, Effect, SysEnd};
 use guest_futex::Waiters;
 use guest_load::Guest;
@@ -41,8 +41,8 @@ const FUTEX_WAIT_BITSET: u32 = 9;
 const FUTEX_WAKE_BITSET: u32 = 10;
 
 /// What the call asks for, if it is named so: a wait has no timeout, and a bitset names every bit.
-fn asked(caller: &Caller) -> Option<Operation>
-    ensures { result ≡ asked caller.now }
+fn operation_of(caller: &Caller) -> Option<Operation>
+    ensures { result ≡ operation_of caller.now }
 {
     let no_timeout = caller.argument(3) == 0;
     let any_bit = caller.argument(5) == u32::MAX;
@@ -76,10 +76,10 @@ fn wait(
     requires caller { IsCaller guest.old caller.now }
     requires apart { times_waiting caller.now.thread.no waiters.old.waits ≡ 0 }
     requires few { length waiters.old.waits < 65535 }
-    ensures { let before = sys guest.old waiters.old.waits in
+    ensures { let before = kernel_of guest.old waiters.old.waits in
         Gives (WaitTakes before caller.now)
-        (waits_on before caller.now (loaded guest.old.mem 1 (argument 0 caller.now) 4)) (number caller.now) before
-        result (sys guest.new waiters.new.waits) }
+        (waits_on before caller.now (load_at guest.old.mem 1 (argument 0 caller.now) 4)) (number caller.now) before
+        result (kernel_of guest.new waiters.new.waits) }
 {
     let addr = caller.argument(0);
     let Ok(word) = guest.mem.load32(addr) else {
@@ -91,15 +91,15 @@ fn wait(
     waiters.reserve()?;
     waiters.wait(caller.thread.no, addr);
     settle(guest, caller, 0);
-    Ok(quiet(alloc, Act::Wait(addr)))
+    Ok(quiet_effect(alloc, Act::Wait(addr)))
 }
 
 /// Waiters are woken; their number is the answer.
 fn wake(guest: &mut Guest, waiters: &mut Waiters, caller: &Caller) -> Result<Effect, SysEnd>
     requires { IsCaller guest.old caller.now }
-    ensures { let before = sys guest.old waiters.old.waits in
+    ensures { let before = kernel_of guest.old waiters.old.waits in
         Gives (WakeTakes before (argument 0 caller.now) (argument 2 caller.now)) (wakes before caller.now)
-        (number caller.now) before result (sys guest.new waiters.new.waits) }
+        (number caller.now) before result (kernel_of guest.new waiters.new.waits) }
 {
     let woken = waiters.wake(caller.argument(0), caller.argument(2))?;
     settle(guest, caller, woken.items.len() as u32);
@@ -112,9 +112,9 @@ fn wake(guest: &mut Guest, waiters: &mut Waiters, caller: &Caller) -> Result<Eff
 /// Waiters are woken, and others are moved to another word.
 fn requeue(guest: &mut Guest, waiters: &mut Waiters, caller: &Caller) -> Result<Effect, SysEnd>
     requires { IsCaller guest.old caller.now }
-    ensures { let before = sys guest.old waiters.old.waits in
+    ensures { let before = kernel_of guest.old waiters.old.waits in
         Gives (WakeTakes before (argument 0 caller.now) (argument 2 caller.now)) (requeues before caller.now)
-        (number caller.now) before result (sys guest.new waiters.new.waits) }
+        (number caller.now) before result (kernel_of guest.new waiters.new.waits) }
 {
     let addr = caller.argument(0);
     let woken = waiters.wake(addr, caller.argument(2))?;
@@ -137,11 +137,11 @@ pub fn futex(
     requires caller { IsCaller guest.old caller.now }
     requires apart { times_waiting caller.now.thread.no waiters.old.waits ≡ 0 }
     requires few { length waiters.old.waits < 65535 }
-    ensures { let before = sys guest.old waiters.old.waits in
-        Gives (FutexTakes (asked caller.now) before caller.now) (futex before caller.now) (number caller.now) before
-        result (sys guest.new waiters.new.waits) }
+    ensures { let before = kernel_of guest.old waiters.old.waits in
+        Gives (FutexTakes (operation_of caller.now) before caller.now) (futex before caller.now) (number caller.now) before
+        result (kernel_of guest.new waiters.new.waits) }
 {
-    let Some(operation) = asked(caller) else {
+    let Some(operation) = operation_of(caller) else {
         return Err(caller.unsupported());
     };
     if !on_words(operation, caller) {

@@ -5,7 +5,7 @@ ghost use Rattle.std.specs.List.Sorted.{IsStrictlyIncreasing};
 ghost use Rattle.guest_futex.specs.Waits.{times_waiting};
 ghost use Rattle.guest_futex.specs.declared.queue.Wait.{Wait};
 ghost use Rattle.guest_load.specs.Lawful.{IsLawful};
-ghost use Rattle.guest_sys.specs.Sys.{EachWaiterLives, IsLive, sys};
+ghost use Rattle.guest_sys.specs.Kernel.{EachWaiterLives, IsLive, kernel_of};
 ghost use Rattle.guest_sys.specs.Common.{IsCaller, WhereRefused, number};
 ghost use Rattle.guest_sys.specs.inner.Bodies.{Gives};
 ghost use Rattle.guest_sys.specs.CallRow.{Calls, call_row, caller_of, row_does};
@@ -27,7 +27,7 @@ use guest_load::{Guest, Thread};
 use std::alloc::Global;
 use std::marker::Model;
 
-/// A guest and its threads that wait, each of which is a live one. Contracts see it as a `Sys`.
+/// A guest and its threads that wait, each of which is a live one. Contracts see the guest and the list of waits.
 #[derive(Drop)]
 pub struct Kernel {
     pub guest: Guest,
@@ -36,13 +36,13 @@ pub struct Kernel {
 }
 
 impl Model for Kernel {
-    ghost use Rattle.guest_sys.specs.Sys.{EachWaiterLives, Sys, sys, sys_code};
+    ghost use Rattle.guest_sys.specs.Kernel.{EachWaiterLives, Kernel, kernel_of, kernel_code};
 
-    ghost Value = { Sys };
+    ghost Value = { Kernel };
 
-    ghost coded = { sys_code };
+    ghost coded = { kernel_code };
 
-    ghost view = { λ k. sys k.guest k.waiters.waits };
+    ghost view = { λ k. kernel_of k.guest k.waiters.waits };
 
     ghost invariant = { λ k. EachWaiterLives k.guest.threads k.waiters.waits };
 }
@@ -50,7 +50,7 @@ impl Model for Kernel {
 impl Kernel {
     /// A kernel in which no thread waits. It takes no memory.
     pub fn new(alloc: Global, guest: Guest) -> Kernel
-        ensures { result ≡ sys guest [] }
+        ensures { result ≡ kernel_of guest [] }
     {
         Kernel {
             guest,
@@ -95,7 +95,7 @@ impl Kernel {
 /// Where the call of a live thread may change memory.
 fn reach_in(guest: &Guest, thread: ThreadNo) -> Reach
     requires { IsLive thread guest.now.threads }
-    ensures { (waits : List Wait) → IfOk (call_row (sys guest.now waits) thread)
+    ensures { (waits : List Wait) → IfOk (call_row (kernel_of guest.now waits) thread)
         (λ done. IsWithin result guest.now.mem done.1.guest.mem) }
 {
     let caller = live_caller(guest, thread);
@@ -115,14 +115,14 @@ fn serve(
     requires live { IsLive thread guest.old.threads }
     requires runs { times_waiting thread waiters.old.waits ≡ 0 }
     requires lives { EachWaiterLives guest.old.threads waiters.old.waits }
-    ensures row { let before = sys guest.old waiters.old.waits in
-        Calls (call_row before thread) before result (sys guest.new waiters.new.waits) }
-    ensures memory { let before = sys guest.old waiters.old.waits in
+    ensures row { let before = kernel_of guest.old waiters.old.waits in
+        Calls (call_row before thread) before result (kernel_of guest.new waiters.new.waits) }
+    ensures memory { let before = kernel_of guest.old waiters.old.waits in
         WhereRefused result (CallTakes before (caller_of thread guest.old.threads)) }
-    ensures killed { IfOk result (λ effect. ChangesNothing effect.act (sys guest.old waiters.old.waits)
-        (sys guest.new waiters.new.waits)) }
-    ensures balance { IfOk result (λ effect. IsBalanced thread (sys guest.old waiters.old.waits) effect
-        (sys guest.new waiters.new.waits)) }
+    ensures killed { IfOk result (λ effect. ChangesNothing effect.act (kernel_of guest.old waiters.old.waits)
+        (kernel_of guest.new waiters.new.waits)) }
+    ensures balance { IfOk result (λ effect. IsBalanced thread (kernel_of guest.old waiters.old.waits) effect
+        (kernel_of guest.new waiters.new.waits)) }
     ensures lives { EachWaiterLives guest.new.threads waiters.new.waits }
 {
     let caller = live_caller(guest, thread);
@@ -176,9 +176,9 @@ fn apply(
     requires caller { IsCaller guest.old caller.now }
     requires apart { times_waiting caller.now.thread.no waiters.old.waits ≡ 0 }
     requires few { length waiters.old.waits < 65535 }
-    ensures { let before = sys guest.old waiters.old.waits in
+    ensures { let before = kernel_of guest.old waiters.old.waits in
         Gives (TakesMemory row before caller.now) (row_does row before caller.now) (number caller.now) before result
-        (sys guest.new waiters.new.waits) }
+        (kernel_of guest.new waiters.new.waits) }
 {
     match row {
         Row::Ioctl => Ok(on_stream(alloc, guest, caller, error_of(ENOTTY))),

@@ -3,9 +3,9 @@
 ghost use Rattle.std.specs.Prelude.{◌≡◌, Some};
 ghost use Rattle.guest_sys.specs.Common.{IsCaller, number};
 ghost use Rattle.guest_sys.specs.inner.Bodies.{Gives};
-ghost use Rattle.guest_sys.specs.Signals.{is_live, kill, signalled, tkill, tgkill};
+ghost use Rattle.guest_sys.specs.Signals.{is_live, kill, signal_effect, tkill, tgkill};
 
-use crate::caller::{Caller, EINVAL, answer, quiet, refuse};
+use crate::caller::{Caller, EINVAL, answer, quiet_effect, refuse};
 use crate::effect::{Act, Effect, SysEnd};
 use guest_load::Guest;
 use std::alloc::Global;
@@ -19,7 +19,7 @@ const PROCESS: u32 = 1;
 /// The signal is sent: 0 asks only whether it could be.
 fn send(alloc: Global, guest: &mut Guest, caller: &Caller, signal: u32) -> Effect
     requires { IsCaller guest.old caller.now }
-    ensures { Some (result, guest.new) ≡ signalled guest.old caller.now signal }
+    ensures { Some (result, guest.new) ≡ signal_effect guest.old caller.now signal }
 {
     if signal == 0 {
         return answer(alloc, guest, caller, 0);
@@ -27,7 +27,7 @@ fn send(alloc: Global, guest: &mut Guest, caller: &Caller, signal: u32) -> Effec
     if signal > LAST_SIGNAL {
         return refuse(alloc, guest, caller, EINVAL);
     }
-    quiet(alloc, Act::Killed(signal))
+    quiet_effect(alloc, Act::Killed(signal))
 }
 
 /// Whether a live thread has the number.

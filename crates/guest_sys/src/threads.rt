@@ -1,15 +1,15 @@
 //! The beginning and the end of threads.
 
 ghost use Rattle.std.specs.Prelude.{◌≡◌, ◌+◌, Some, OnOk, OnErr, false};
-ghost use Rattle.guest_sys.specs.Sys.{sys};
+ghost use Rattle.guest_sys.specs.Kernel.{kernel_of};
 ghost use Rattle.guest_sys.specs.Common.{IsCaller, number};
 ghost use Rattle.guest_sys.specs.inner.Bodies.{Gives};
 ghost use Rattle.guest_sys.specs.Taking.{CloneTakes, ExitTakes};
 ghost use Rattle.guest_sys.specs.Threads.{clone, end_act, exit, exit_group, has_flag, is_cleared, is_crowded};
 ghost use Rattle.guest_sys.specs.Threads.{is_thread, may_tell, may_tell_both, new_thread, set_tid_address};
-ghost use Rattle.guest_sys.specs.Threads.{told, with_thread, without_caller};
+ghost use Rattle.guest_sys.specs.Threads.{with_number, with_thread, without_caller};
 
-use crate::caller::{Caller, EAGAIN, EFAULT, quiet, refuse, settle};
+use crate::caller::{Caller, EAGAIN, EFAULT, quiet_effect, refuse, settle};
 use crate::effect::{Act, Effect, SysEnd};
 use byte_text::OutOfMemory;
 use event_costs::{STACK_POINTER, ThreadNo};
@@ -74,15 +74,15 @@ pub fn exit(
     caller: &Caller,
 ) -> Result<Effect, SysEnd>
     requires { IsCaller guest.old caller.now }
-    ensures { let before = sys guest.old waiters.old.waits in
+    ensures { let before = kernel_of guest.old waiters.old.waits in
         Gives (ExitTakes before caller.now) (exit before caller.now) (number caller.now) before result
-        (sys guest.new waiters.new.waits) }
+        (kernel_of guest.new waiters.new.waits) }
 {
     let act = end_act(guest, caller);
     let clear = caller.thread.clear;
     if !is_cleared(&guest.mem, clear) {
         remove_caller(guest, caller);
-        return Ok(quiet(alloc, act));
+        return Ok(quiet_effect(alloc, act));
     }
     let woken = waiters.wake(clear, 1)?;
     let _cleared = guest.mem.store32(clear, 0);
@@ -95,7 +95,7 @@ pub fn exit_group(alloc: Global, guest: &Guest, caller: &Caller) -> Effect
     ensures { Some (result, guest.now) ≡ exit_group guest.now caller.now }
 {
     let code = (caller.argument(0) % 256) as u8;
-    quiet(alloc, Act::ProcessEnd(code))
+    quiet_effect(alloc, Act::ProcessEnd(code))
 }
 
 /// set_tid_address(p): the clear address is p; the thread's number.
@@ -103,10 +103,10 @@ pub fn set_tid_address(alloc: Global, guest: &mut Guest, caller: &Caller) -> Eff
     requires { IsCaller guest.old caller.now }
     ensures { Some (result, guest.new) ≡ set_tid_address guest.old caller.now }
 {
-    let mut after = caller.resumed(caller.thread.no.0);
+    let mut after = caller.resume(caller.thread.no.0);
     after.clear = caller.argument(0);
     guest.threads[caller.place] = after;
-    quiet(alloc, Act::Answer)
+    quiet_effect(alloc, Act::Answer)
 }
 
 /// Whether the call has a flag.
@@ -139,7 +139,7 @@ fn may_tell(mem: &GuestMem, tells: bool, addr: u32) -> bool
 
 /// Tells a word a number, if it is to be told.
 fn tell(mem: &mut GuestMem, tells: bool, addr: u32, number: u32)
-    ensures { mem.new ≡ told tells addr number mem.old }
+    ensures { mem.new ≡ with_number tells addr number mem.old }
 {
     if tells {
         let _told = mem.store32(addr, number);
@@ -150,7 +150,7 @@ fn tell(mem: &mut GuestMem, tells: bool, addr: u32, number: u32)
 fn new_thread(caller: &Caller, number: u32) -> Thread
     ensures { result ≡ new_thread number caller.now }
 {
-    let mut thread = caller.resumed(0);
+    let mut thread = caller.resume(0);
     thread.no = ThreadNo(number);
     let stack = caller.argument(1);
     if stack != 0 {
@@ -203,7 +203,7 @@ pub fn clone(alloc: Global, guest: &mut Guest, caller: &Caller) -> Result<Effect
     let number = guest.made + 1;
     add_thread(guest, caller, number)?;
     settle(guest, caller, number);
-    Ok(quiet(alloc, Act::Spawn(ThreadNo(number))))
+    Ok(quiet_effect(alloc, Act::Spawn(ThreadNo(number))))
 }
 
 /// Whether the words that are to know the new thread's number can be told it.

@@ -1,13 +1,13 @@
-//! readv and writev: a list of pairs in memory names the ranges of bytes that a call moves.
+//! readv and writev: a list of iovecs in memory names the ranges of bytes that a call moves.
 
 ghost use Rattle.std.specs.Prelude.{◌≡◌, ◌≤◌, ◌++◌, IfOk, OnErr, take, length, true};
 ghost use Rattle.guest_mem.specs.Memory.{may, bytes_at, number_of};
 ghost use Rattle.guest_sys.specs.Common.{IsCaller, number};
 ghost use Rattle.guest_sys.specs.inner.Bodies.{Gives};
 ghost use Rattle.guest_sys.specs.Taking.{ReadsFirst, ReadvTakes, WritevTakes};
-ghost use Rattle.guest_sys.specs.Vectors.{counting, each_allowed, places};
-ghost use Rattle.guest_sys.specs.inner.Bodies.{Gathers, IsListed};
-ghost use Rattle.guest_sys.specs.Vectors.{put_each, readv, span_at, writev};
+ghost use Rattle.guest_sys.specs.Vectors.{addresses_from, each_allowed, addresses_of};
+ghost use Rattle.guest_sys.specs.inner.Bodies.{Gathers, IsIovecList};
+ghost use Rattle.guest_sys.specs.Vectors.{put_each, readv, iovec_at, writev};
 
 use crate::caller::{Caller, EBADF, EFAULT, EINVAL, answer, go_on, refuse};
 use crate::effect::{Act, Effect, SysEnd};
@@ -18,15 +18,15 @@ use guest_load::Guest;
 use guest_mem::{CopyError, GuestMem, READ, WRITE};
 use std::alloc::{AllocError, Global};
 
-/// The most pairs of one call.
-const MAX_PAIRS: u32 = 1024;
+/// The most iovecs of one call.
+const IOV_MAX: u32 = 1024;
 
-/// The bytes of a pair.
-const PAIR: u32 = 8;
+/// The bytes of an iovec.
+const IOVEC_BYTES: u32 = 8;
 
 /// A range of the guest's addresses.
 #[derive(Clone, Copy, Debug, PartialEq, Eq)]
-pub struct Span {
+pub struct Iovec {
     pub addr: u32,
     /// How many bytes it has.
     pub len: u32,
@@ -34,8 +34,8 @@ pub struct Span {
 
 /// The ranges that a call moves bytes from or to, one after another, and how many bytes.
 #[derive(Debug, Drop)]
-pub struct Listed {
-    pub spans: Vec<Span>,
+pub struct IovecList {
+    pub iovecs: Vec<Iovec>,
     pub count: u64,
 }
 
@@ -47,58 +47,58 @@ fn word_at(mem: &GuestMem, at: u32) -> u32
     mem.load32(at).unwrap()
 }
 
-/// The pair at an address, where it may be read.
-fn span_at(mem: &GuestMem, at: u32) -> Span
+/// The iovec at an address, where it may be read.
+fn iovec_at(mem: &GuestMem, at: u32) -> Iovec
     requires { may mem.now 1 at 8 ≡ true }
-    ensures { result ≡ span_at mem.now at }
+    ensures { result ≡ iovec_at mem.now at }
 {
-    Span {
+    Iovec {
         addr: word_at(mem, at),
         len: word_at(mem, at + 4),
     }
 }
 
-/// Reads the pairs of a call that moves at most so many bytes, in order, until their lengths sum up to the limit.
+/// Reads the iovecs of a call that moves at most so many bytes, in order, until their lengths sum up to the limit.
 /// Nothing where one of them may not be read.
-fn read_pairs(
+fn read_iovecs(
     alloc: Global,
     mem: &GuestMem,
     list: u32,
     count: u32,
     limit: usize,
-) -> Result<Option<Listed>, AllocError>
+) -> Result<Option<IovecList>, AllocError>
     requires { count ≤ 1024 }
-    ensures found { IfOk result (λ found. IsListed limit mem.now list count found) }
+    ensures found { IfOk result (λ found. IsIovecList limit mem.now list count found) }
     ensures memory { OnErr result (ReadsFirst limit mem.now list count) }
 {
-    let mut spans = Vec::new(alloc);
+    let mut iovecs = Vec::new(alloc);
     let mut total = 0;
     'pairs: for index in 0..count {
         if total >= limit as u64 {
             let count = limit as u64;
-            return Ok(Some(Listed { spans, count }));
+            return Ok(Some(IovecList { iovecs, count }));
         }
-        if !mem.may(list, PAIR * (index + 1), READ) {
+        if !mem.may(list, IOVEC_BYTES * (index + 1), READ) {
             return Ok(None);
         }
-        let span = span_at(mem, list + PAIR * index);
-        total += u64::from(span.len);
-        spans.push(span)?;
+        let iovec = iovec_at(mem, list + IOVEC_BYTES * index);
+        total += u64::from(iovec.len);
+        iovecs.push(iovec)?;
     }
-    Ok(Some(Listed {
-        spans,
+    Ok(Some(IovecList {
+        iovecs,
         count: total.min(limit as u64),
     }))
 }
 
 /// Whether the first `count` bytes of ranges may be used so.
-fn may_use(mem: &GuestMem, spans: &[Span], count: u64, want: u8) -> bool
-    ensures { result ≡ each_allowed mem.now want (take count (places spans.now)) }
+fn may_use(mem: &GuestMem, iovecs: &[Iovec], count: u64, want: u8) -> bool
+    ensures { result ≡ each_allowed mem.now want (take count (addresses_of iovecs.now)) }
 {
     let mut left = count;
-    'spans: for span in spans {
-        let len = left.min(u64::from(span.len));
-        if !mem.may(span.addr, len as u32, want) {
+    'iovecs: for iovec in iovecs {
+        let len = left.min(u64::from(iovec.len));
+        if !mem.may(iovec.addr, len as u32, want) {
             return false;
         }
         left -= len;
@@ -109,7 +109,7 @@ fn may_use(mem: &GuestMem, spans: &[Span], count: u64, want: u8) -> bool
 /// Puts bytes to one range.
 fn put_piece(mem: &mut GuestMem, addr: u32, piece: &[u8])
     requires { may mem.old 2 addr (length piece.now) ≡ true }
-    ensures { mem.new ≡ put_each mem.old (counting addr (length piece.now)) piece.now }
+    ensures { mem.new ≡ put_each mem.old (addresses_from addr (length piece.now)) piece.now }
 {
     if piece.is_empty() {
         return;
@@ -118,14 +118,14 @@ fn put_piece(mem: &mut GuestMem, addr: u32, piece: &[u8])
 }
 
 /// Puts bytes to ranges, one range after another.
-fn scatter(mem: &mut GuestMem, spans: &[Span], bytes: &[u8])
-    requires { each_allowed mem.old 2 (take (length bytes.now) (places spans.now)) ≡ true }
-    ensures { mem.new ≡ put_each mem.old (take (length bytes.now) (places spans.now)) bytes.now }
+fn scatter(mem: &mut GuestMem, iovecs: &[Iovec], bytes: &[u8])
+    requires { each_allowed mem.old 2 (take (length bytes.now) (addresses_of iovecs.now)) ≡ true }
+    ensures { mem.new ≡ put_each mem.old (take (length bytes.now) (addresses_of iovecs.now)) bytes.now }
 {
     let mut rest = bytes;
-    'spans: for span in spans {
-        let (piece, after) = rest.split_at(rest.len().min(span.len as usize));
-        put_piece(mem, span.addr, piece);
+    'iovecs: for iovec in iovecs {
+        let (piece, after) = rest.split_at(rest.len().min(iovec.len as usize));
+        put_piece(mem, iovec.addr, piece);
         rest = after;
     }
 }
@@ -149,17 +149,17 @@ fn add_piece(mem: &GuestMem, addr: u32, len: u32, text: &mut Text) -> Result<boo
 fn gather(
     alloc: Global,
     mem: &GuestMem,
-    spans: &[Span],
+    iovecs: &[Iovec],
     count: u64,
 ) -> Result<Option<Text>, OutOfMemory>
-    ensures found { IfOk result (λ found. Gathers mem.now (take count (places spans.now)) found) }
-    ensures memory { OnErr result (1 ≤ length spans.now) }
+    ensures found { IfOk result (λ found. Gathers mem.now (take count (addresses_of iovecs.now)) found) }
+    ensures memory { OnErr result (1 ≤ length iovecs.now) }
 {
     let mut text = Text::new(alloc);
     let mut left = count;
-    'spans: for span in spans {
-        let len = left.min(u64::from(span.len));
-        let readable = add_piece(mem, span.addr, len as u32, &mut text)?;
+    'iovecs: for iovec in iovecs {
+        let len = left.min(u64::from(iovec.len));
+        let readable = add_piece(mem, iovec.addr, len as u32, &mut text)?;
         if !readable {
             return Ok(None);
         }
@@ -179,18 +179,18 @@ pub fn readv(alloc: Global, guest: &mut Guest, caller: &Caller) -> Result<Effect
         return Ok(refuse(alloc, guest, caller, EBADF));
     }
     let pairs = caller.argument(2);
-    if pairs > MAX_PAIRS {
+    if pairs > IOV_MAX {
         return Ok(refuse(alloc, guest, caller, EINVAL));
     }
     let rest = &guest.input[guest.place..];
-    let Some(listed) = read_pairs(alloc, &guest.mem, caller.argument(1), pairs, rest.len())? else {
+    let Some(listed) = read_iovecs(alloc, &guest.mem, caller.argument(1), pairs, rest.len())? else {
         return Ok(refuse(alloc, guest, caller, EFAULT));
     };
-    if !may_use(&guest.mem, &listed.spans, listed.count, WRITE) {
+    if !may_use(&guest.mem, &listed.iovecs, listed.count, WRITE) {
         return Ok(refuse(alloc, guest, caller, EFAULT));
     }
     let count = listed.count as usize;
-    scatter(&mut guest.mem, &listed.spans, &rest[..count]);
+    scatter(&mut guest.mem, &listed.iovecs, &rest[..count]);
     guest.place += count;
     Ok(answer(alloc, guest, caller, (listed.count % ADDRESSES) as u32))
 }
@@ -207,14 +207,14 @@ pub fn writev(alloc: Global, guest: &mut Guest, caller: &Caller) -> Result<Effec
         return Ok(refuse(alloc, guest, caller, EBADF));
     }
     let pairs = caller.argument(2);
-    if pairs > MAX_PAIRS {
+    if pairs > IOV_MAX {
         return Ok(refuse(alloc, guest, caller, EINVAL));
     }
     let limit = WRITE_LIMIT as usize;
-    let Some(listed) = read_pairs(alloc, &guest.mem, caller.argument(1), pairs, limit)? else {
+    let Some(listed) = read_iovecs(alloc, &guest.mem, caller.argument(1), pairs, limit)? else {
         return Ok(refuse(alloc, guest, caller, EFAULT));
     };
-    let Some(text) = gather(alloc, &guest.mem, &listed.spans, listed.count)? else {
+    let Some(text) = gather(alloc, &guest.mem, &listed.iovecs, listed.count)? else {
         return Ok(refuse(alloc, guest, caller, EFAULT));
     };
     let count = listed.count as u32;

@@ -12,7 +12,7 @@ use Rattle.key_tables.proofs.TableLemmas.{none_stands, pushed_at, stands_apart}
 -- more keys
 pub more_keys : (firsts : List ℕ) (count text : ℕ) (other : Option ℕ) (n : ℕ) → IsFound firsts count text other n
     → IsFound firsts (count + 1) text other n
-more_keys firsts count text other n f = record { known = f.known; there = omega (arith, f.there); by = f.by }
+more_keys firsts count text other n f = record { within = f.within; there = omega (arith, f.there); by = f.by }
 
 -- no keys
 pub none_numbered : {K : Type 0} (cmp : K → K → Ordering) (latest : K → ℕ) (same : K → K → Bool)
@@ -35,7 +35,7 @@ module _ {K : Type 0} (cmp : K → K → Ordering) {same : K → K → Bool} (la
   pub none_first : (firsts : List ℕ) (others : BTreeMap K ℕ) → AreNumbered cmp latest same keys firsts others
       → (latest key < length firsts → slice_index_or firsts (latest key) 0 < length keys → ⊥)
       → list_any (same key) keys ≡ false
-  none_first firsts others h none = absent firsts others h (λ n at f. none f.known f.there)
+  none_first firsts others h none = absent firsts others h (λ n at f. none f.within f.there)
 
   -- or if it isn't the text's first one, and stands nowhere else
   pub none_other : (firsts : List ℕ) (others : BTreeMap K ℕ) → AreNumbered cmp latest same keys firsts others

@@ -11,7 +11,7 @@ use Rattle.std.proofs.lemmas.List.Elements.{filter-append}
 use Rattle.std.proofs.lemmas.List.Folds.{list_any_at}
 use Rattle.std.proofs.lemmas.Option.{get_or_from_slice_get, slice_get_within}
 use Rattle.key_tables.specs.Keys.{AreApart, NumberEach, missing}
-use Rattle.key_tables.specs.Known.{AreFound}
+use Rattle.key_tables.specs.Indexes.{AreFound}
 use Rattle.key_tables.proofs.MissingLemmas.{number_kept, number_push}
 use Rattle.key_tables.proofs.TableLemmas.{found_more, last_at, none_stands, not_found, slice_get_kept}
 
@@ -19,11 +19,11 @@ module _ {K : Type 0} (cmp : K → K → Ordering) {same : K → K → Bool} (la
     (matches : (x y : K) → same x y ≡ is_eq (cmp x y)) (exact : (x y : K) → same x y ≡ true → x ≡ y)
     (keys : List K) where
   -- one key more is known
-  pub learned : (known : ℕ) (key : K) (old new : BTreeMap K ℕ) → known < length keys → key ≡ get_or keys known key
+  pub finds_one_more : (known : ℕ) (key : K) (old new : BTreeMap K ℕ) → known < length keys → key ≡ get_or keys known key
       → AreApart keys → AreFound cmp (take known keys) old
       → ((q : K) → get cmp new q ≡ cond (is_at (cmp key) q) (Some known) (get cmp old q))
       → AreFound cmp (take (known + 1) keys) new
-  learned known key old new lt is apart found updates =
+  finds_one_more known key old new lt is apart found updates =
       let long : length (take known keys) ≡ known = length-take-le known keys (omega (arith, lt)) in
       let more : take (known + 1) keys ≡ take known keys ++ key ∷ [] =
       take_more keys known key lt ∙ ap (λ x. take known keys ++ x ∷ []) (sym is) in
@@ -41,10 +41,10 @@ module _ {K : Type 0} (cmp : K → K → Ordering) {same : K → K → Bool} (la
           ∙ get_or_from_slice_get (take known keys) n key key at ∙ is)
 
   -- what is known of a key's place, once all are
-  pub said : (places : BTreeMap K ℕ) (key : K) → AreFound cmp keys places → (o : Option ℕ) → o ≡ get cmp places key
+  pub place_is : (places : BTreeMap K ℕ) (key : K) → AreFound cmp keys places → (o : Option ℕ) → o ≡ get cmp places key
       → IfSome o (λ known. slice_get keys known ≡ Some key) × IfNone o (list_any (same key) keys ≡ false)
-  said places key found (Some known) is = (found.there known key (sym is), tt)
-  said places key found None is = (tt, not_found cmp laws matches exact keys key places found (sym is))
+  place_is places key found (Some known) is = (found.there known key (sym is), tt)
+  place_is places key found None is = (tt, not_found cmp laws matches exact keys key places found (sym is))
 
 -- One key more of the others that a list gains
 

@@ -9,8 +9,8 @@ use Rattle.std.specs.Ordering.{is_eq}
 use Rattle.std.proofs.lemmas.List.Folds.{list_any_none, list_any_at}
 use Rattle.std.proofs.lemmas.Map.Made.{AllPairs-from_IsDistinct}
 use Rattle.std.proofs.lemmas.Option.{slice_get-get_or, slice_get_within, get_or_from_slice_get}
-use Rattle.key_tables.specs.Keys.{added}
-use Rattle.key_tables.specs.Known.{AreFound}
+use Rattle.key_tables.specs.Keys.{with_key}
+use Rattle.key_tables.specs.Indexes.{AreFound}
 
 pub slice_get_kept : {X : Type 0} (xs ys : List X) (n : ℕ) (x : X) → slice_get xs n ≡ Some x
     → slice_get (xs ++ ys) n ≡ Some x
@@ -46,7 +46,7 @@ module _ {K : Type 0} {same : K → K → Bool} (exact : (x y : K) → same x y 
 
 module _ {K : Type 0} {same : K → K → Bool} (laws : IsEquivalence same) (keys : List K) (key : K) where
   -- a key that stands here is added already
-  pub added_already : (n : ℕ) → slice_get keys n ≡ Some key → keys ≡ added same keys key
+  pub added_already : (n : ℕ) → slice_get keys n ≡ Some key → keys ≡ with_key same keys key
   added_already n at =
       rw (list_any_at (same key) keys n key (slice_get_within keys n key at)
       (rw (get_or_from_slice_get keys n key key at) (laws.refl key))) refl

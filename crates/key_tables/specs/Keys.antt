@@ -7,8 +7,8 @@ abbrev pub AreApart : {X : Type 0} → List X → Type 0
 AreApart xs = AllPairs (λ x y. x ≢ y) xs
 
 -- the keys with this one at the end, if it isn't among them
-abbrev pub added : {K : Type 0} → (K → K → Bool) → List K → K → List K
-added same keys key = if list_any (same key) keys then keys else keys ++ key ∷ []
+abbrev pub with_key : {K : Type 0} → (K → K → Bool) → List K → K → List K
+with_key same keys key = if list_any (same key) keys then keys else keys ++ key ∷ []
 
 -- those of the second list that aren't in the first
 abbrev pub missing : {K : Type 0} → (K → K → Bool) → List K → List K → List K

@@ -1,5 +1,5 @@
 pub mod Keys
-pub mod Known
+pub mod Indexes
 pub mod Ranks
 pub mod Same
 pub mod inner

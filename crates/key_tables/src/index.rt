@@ -5,7 +5,7 @@ ghost use Rattle.std.specs.BTreeMap.{get};
 ghost use Rattle.key_tables.specs.Keys.{missing};
 ghost use Rattle.key_tables.specs.Keys.{AreApart};
 ghost use Rattle.key_tables.specs.Keys.{NumberEach};
-ghost use Rattle.key_tables.specs.Known.{AreFound, Knows};
+ghost use Rattle.key_tables.specs.Indexes.{AreFound, Knows};
 
 use crate::table::Key;
 use byte_text::OutOfMemory;
@@ -18,12 +18,12 @@ use std::collections::BTreeMap;
 pub struct Index<K: Key> {
     pub places: BTreeMap<K, usize>,
     /// How many keys it knows.
-    pub known: usize,
+    pub count: usize,
 }
 
 /// The keys that a list gains from another, and the numbers that the other's keys then have.
 #[derive(Drop)]
-pub struct Gained<K: Key> {
+pub struct KeyGain<K: Key> {
     pub added: Vec<K>,
     pub numbers: Vec<usize>,
 }
@@ -35,7 +35,7 @@ impl<K: Key> Index<K> {
     {
         Index {
             places: BTreeMap::new(alloc),
-            known: 0,
+            count: 0,
         }
     }
 
@@ -46,10 +46,10 @@ impl<K: Key> Index<K> {
         ensures knows { Knows K.cmp keys.now self.new }
         ensures all { OnOk result (AreFound K.cmp keys.now self.new.places) }
     {
-        'keys: while self.known < keys.len() {
-            let key = keys[self.known].again(alloc)?;
-            self.places.insert(key, self.known)?;
-            self.known += 1;
+        'keys: while self.count < keys.len() {
+            let key = keys[self.count].again(alloc)?;
+            self.places.insert(key, self.count)?;
+            self.count += 1;
         }
         Ok(())
     }
@@ -63,12 +63,12 @@ impl<K: Key> Index<K> {
     }
 
     /// What a list gains from others.
-    pub fn gained(
+    pub fn gain(
         &mut self,
         alloc: Global,
         own: &[K],
         others: &[K],
-    ) -> Result<Gained<K>, OutOfMemory>
+    ) -> Result<KeyGain<K>, OutOfMemory>
         requires knows { Knows K.cmp own.now self.old }
         requires own { AreApart own.now }
         requires others { AreApart others.now }
@@ -79,11 +79,11 @@ impl<K: Key> Index<K> {
         ensures apart { IfOk result (λ g. AreApart (own.now ++ g.added.items)) }
     {
         self.learn(alloc, own)?;
-        self.gained_from(alloc, own, others)
+        self.gain_from(alloc, own, others)
     }
 
     /// The same, once all keys of the list are known.
-    fn gained_from(&self, alloc: Global, own: &[K], others: &[K]) -> Result<Gained<K>, OutOfMemory>
+    fn gain_from(&self, alloc: Global, own: &[K], others: &[K]) -> Result<KeyGain<K>, OutOfMemory>
         requires found { AreFound K.cmp own.now self.now.places }
         requires fits { length own.now + length others.now < 2 ^ 64 }
         ensures added { IfOk result (λ g. g.added.items ≡ missing K.eq own.now others.now) }
@@ -96,7 +96,7 @@ impl<K: Key> Index<K> {
             let number = place_or_added(alloc, place, own.len(), &mut added, other)?;
             numbers.push(number)?;
         }
-        Ok(Gained { added, numbers })
+        Ok(KeyGain { added, numbers })
     }
 }
 

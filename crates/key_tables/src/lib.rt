@@ -8,7 +8,7 @@ mod ranks;
 mod table;
 mod text_keys;
 
-pub use index::{Gained, Index};
+pub use index::{Index, KeyGain};
 pub use ranks::text_ranks;
 pub use table::{Key, Table};
 pub use text_keys::{TextKey, TextKeys};

@@ -4,7 +4,7 @@ ghost use Rattle.std.specs.Prelude.{◌≡◌, ◌≢◌, ◌↔◌, Some, true,
 ghost use Rattle.std.specs.List.{AllPairs, list_any};
 ghost use Rattle.std.specs.Str.{bytes_eq};
 ghost use Rattle.key_tables.specs.inner.Mixed.{IsFound, KeepsTexts, mixed};
-ghost use Rattle.key_tables.specs.Keys.{added};
+ghost use Rattle.key_tables.specs.Keys.{with_key};
 
 use crate::mixed::mix;
 use byte_text::{OutOfMemory, Text, TextRef};
@@ -143,7 +143,7 @@ impl<'a> Table<'a> {
 
     /// The number of a text, which is added where it isn't there yet. After a refusal the texts are as before.
     pub fn number(&mut self, text: TextRef<'a>) -> Result<usize, OutOfMemory>
-        ensures keys { IfOk result (λ _. self.new ≡ added bytes_eq self.old text.entry) }
+        ensures keys { IfOk result (λ _. self.new ≡ with_key bytes_eq self.old text.entry) }
         ensures number { IfOk result (λ n. slice_get self.new n ≡ Some text.entry) }
         ensures err { OnErr result (self.new ≡ self.old) }
     {

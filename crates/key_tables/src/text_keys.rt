@@ -5,7 +5,7 @@ ghost use Rattle.std.specs.Prelude.{[], IfNone, IfOk, IfSome, OnErr, OnOk};
 ghost use Rattle.std.specs.Prelude.{length, slice_get, slice_index_or};
 ghost use Rattle.std.specs.List.{AllPairs, list_any};
 ghost use Rattle.key_tables.specs.inner.Firsts.{Finds, KeepsFirsts, KeepsOthers};
-ghost use Rattle.key_tables.specs.Keys.{added};
+ghost use Rattle.key_tables.specs.Keys.{with_key};
 
 use crate::table::{Key, stands_at};
 use byte_text::OutOfMemory;
@@ -140,7 +140,7 @@ impl<K: TextKey> TextKeys<K> {
 
     /// The number of a key, which is added where it isn't there yet. After a refusal the keys are as before.
     pub fn number(&mut self, key: K) -> Result<usize, OutOfMemory>
-        ensures keys { IfOk result (λ _. self.new ≡ added K.eq self.old key) }
+        ensures keys { IfOk result (λ _. self.new ≡ with_key K.eq self.old key) }
         ensures number { IfOk result (λ n. slice_get self.new n ≡ Some key) }
         ensures err { OnErr result (self.new ≡ self.old) }
     {

@@ -9,9 +9,9 @@ use Rattle.std.proofs.lemmas.Bool.Decides.{nat_tests}
 use Rattle.std.proofs.lemmas.List.{take_all, take_more, drop-drop, drop-take, drop-map, take-map, length-map}
 use Rattle.std.proofs.lemmas.List.{length-take, length-take-le, length-drop, map_push}
 use Rattle.std.proofs.lemmas.List.Elements.{All-push, All-weaker}
-use Rattle.byte_text.specs.Names.{cleaned, cleaned_byte, is_printable}
+use Rattle.byte_text.specs.Names.{clean_name, clean_byte, is_printable}
 use Rattle.name_numbers.specs.declared.text_place.TextPlace.{TextPlace}
-use Rattle.name_numbers.specs.inner.CleanNames.{printed, is_changed, IsWithin, IsPrinted, Grows}
+use Rattle.name_numbers.specs.inner.CleanNames.{printed_byte, is_changed, IsWithin, IsPrinted, Grows}
 use Rattle.name_numbers.specs.Texts.{text_at, texts_at, IsInFile}
 use Rattle.name_numbers.specs.Keys.{NumberEach}
 use Rattle.name_numbers.proofs.NameRanks.{take_of_take}
@@ -21,7 +21,7 @@ use Rattle.name_numbers.proofs.Rising.{is_number, numbers_without, number_insert
 
 -- the byte at a place, where it is no space that would have to go
 byte_stays : (len place byte : ℕ) → (nat_eq byte 0x20 && (nat_eq place 0 || nat_eq (place + 1) len)) ≡ false
-    → cleaned_byte len place byte ≡ printed byte
+    → clean_byte len place byte ≡ printed_byte byte
 byte_stays len place byte e =
     ap (λ c. if c then byte else 0x3f) (ap (λ d. is_printable byte && not d) e ∙ kept (is_printable byte))
   where
@@ -32,7 +32,7 @@ byte_stays len place byte e =
 bytes_stay : (len place : ℕ) (bytes : List ℕ) → place + length bytes ≡ len
     → (place ≡ 0 → nat_eq (get_or bytes 0 0) 0x20 ≡ false)
     → nat_eq (get_or bytes (length bytes - 1) 0) 0x20 ≡ false
-    → map (λ p. cleaned_byte len p.0 p.1) (enumerate_from place bytes) ≡ map printed bytes
+    → map (λ p. clean_byte len p.0 p.1) (enumerate_from place bytes) ≡ map printed_byte bytes
 bytes_stay len place [] whole first last = refl
 bytes_stay len place (b ∷ bs) whole first last =
     (λ i. byte_stays len place b (no_space (nat_eq b 0x20) refl) i
@@ -68,7 +68,7 @@ either_false : (c d : Bool) → (c || d) ≡ false → (c ≡ false) × (d ≡ f
 either_false true d e = absurd (cc)
 either_false false d e = (refl, e)
 
-pub printed_name : (name : List ℕ) → is_changed name ≡ false → map printed name ≡ cleaned name
+pub printed_name : (name : List ℕ) → is_changed name ≡ false → map printed_byte name ≡ clean_name name
 printed_name [] e = absurd (cc)
 printed_name (b ∷ bs) e =
     let both = either_false (nat_eq b 0x20) (nat_eq (get_or (b ∷ bs) (length (b ∷ bs) - 1) 0) 0x20) e in
@@ -130,17 +130,17 @@ printed_long file part bytes inside so =
     let n : ℕ = part.end - part.start in
     let dropped : length (drop part.start file) ≡ length file - part.start = length-drop part.start file in
     let text : length (text_at file part) ≡ n = length-take-le n (drop part.start file) (omega (arith, dropped, high)) in
-    let mapped : length (map printed (text_at file part)) ≡ length (text_at file part) =
-    length-map (text_at file part) printed in
+    let mapped : length (map printed_byte (text_at file part)) ≡ length (text_at file part) =
+    length-map (text_at file part) printed_byte in
     let taken : length (take n bytes) ≡ min n (length bytes) = length-take n bytes in
-    let same : length (take n bytes) ≡ length (map printed (text_at file part)) = ap length so in
+    let same : length (take n bytes) ≡ length (map printed_byte (text_at file part)) = ap length so in
     omega (arith, text, mapped, taken, same)
 
 -- what stands at a place of the part
 pub part_text : (file : List ℕ) (part : TextPlace) (bytes : List ℕ) → IsPrinted file part bytes → (p : TextPlace)
     → IsWithin part p → p.start ≤ p.end
     → text_at bytes (record { start = p.start - part.start; end = p.end - part.start })
-    ≡ map printed (text_at file p)
+    ≡ map printed_byte (text_at file p)
 part_text file part bytes so p within rises =
     let low = within.0 in
     let high = within.1 in
@@ -153,9 +153,9 @@ part_text file part bytes so p within rises =
     let len : e - s ≡ p.end - p.start = omega arith in
     sym (in_front bytes n s e (omega arith))
     ∙ ap (λ (b : List ℕ). take (e - s) (drop s b)) so
-    ∙ ap (take (e - s)) (drop-map printed s (text_at file part))
-    ∙ take-map printed (e - s) (drop s (text_at file part))
-    ∙ ap (map printed) (ap (λ k. take (e - s) (drop s (take k (drop part.start file)))) all
+    ∙ ap (take (e - s)) (drop-map printed_byte s (text_at file part))
+    ∙ take-map printed_byte (e - s) (drop s (text_at file part))
+    ∙ ap (map printed_byte) (ap (λ k. take (e - s) (drop s (take k (drop part.start file)))) all
     ∙ ap (take (e - s)) (drop-take s m (drop part.start file))
     ∙ take_of_take (e - s) m (drop s (drop part.start file)) (omega arith)
     ∙ ap (take (e - s)) (drop-drop s part.start file)
@@ -168,7 +168,7 @@ pub record AreCleaned (file : List ℕ) (part : TextPlace) (names : List TextPla
     (places : List TextPlace) : Type 0 where
   pub printed_part : IsPrinted file part bytes
   pub in_file : All (IsInFile bytes) places
-  pub texts : texts_at bytes places ≡ map cleaned (texts_at file (take i names))
+  pub texts : texts_at bytes places ≡ map clean_name (texts_at file (take i names))
 
 texts_grown : (before bytes : List ℕ) → Grows before bytes → (places : List TextPlace) → All (IsInFile before) places
     → texts_at bytes places ≡ texts_at before places
@@ -188,21 +188,21 @@ pushed before bytes grown places all p inside text is = (
 )
 
 pub cleaned_more : (file : List ℕ) (names : List TextPlace) (i : ℕ) (d : TextPlace) → i < length names
-    → map cleaned (texts_at file (take i names)) ++ cleaned (text_at file (get_or names i d)) ∷ []
-    ≡ map cleaned (texts_at file (take (i + 1) names))
+    → map clean_name (texts_at file (take i names)) ++ clean_name (text_at file (get_or names i d)) ∷ []
+    ≡ map clean_name (texts_at file (take (i + 1) names))
 cleaned_more file names i d lt =
     let before : List TextPlace = take i names in
-    sym (ap (λ (ns : List TextPlace). map cleaned (texts_at file ns)) (take_more names i d lt)
-    ∙ ap (map cleaned) (map_push (text_at file) before (get_or names i d))
-    ∙ map_push cleaned (texts_at file before) (text_at file (get_or names i d)))
+    sym (ap (λ (ns : List TextPlace). map clean_name (texts_at file ns)) (take_more names i d lt)
+    ∙ ap (map clean_name) (map_push (text_at file) before (get_or names i d))
+    ∙ map_push clean_name (texts_at file before) (text_at file (get_or names i d)))
 
 -- the part alone
-pub printed_itself : (file : List ℕ) (part : TextPlace) (bytes : List ℕ) → bytes ≡ map printed (text_at file part)
+pub printed_itself : (file : List ℕ) (part : TextPlace) (bytes : List ℕ) → bytes ≡ map printed_byte (text_at file part)
     → IsPrinted file part bytes
 printed_itself file part bytes is =
     let n : ℕ = part.end - part.start in
-    ap (take n) is ∙ take-map printed n (text_at file part)
-    ∙ ap (map printed) (take_of_take n n (drop part.start file) (omega arith))
+    ap (take n) is ∙ take-map printed_byte n (text_at file part)
+    ∙ ap (map printed_byte) (take_of_take n n (drop part.start file) (omega arith))
 
 -- numbers of texts without that of the last one, and that number
 module _ (keys all : List (List ℕ)) (numbers : List ℕ) (last : List ℕ) (n : ℕ) (at : n ≡ length all)

@@ -11,7 +11,7 @@ use Rattle.std.proofs.lemmas.Cmp.{nat_list_cmp_total}
 use Rattle.std.proofs.lemmas.List.{length-map, get_or-map}
 use Rattle.std.proofs.lemmas.Option.{slice_get-get_or, slice_get-map, slice_get_within, get_or_from_slice_get}
 use Rattle.std.proofs.lemmas.List.Elements.{All-map, All-weaker}
-use Rattle.byte_text.specs.Names.{cleaned, unknown as unknown_name}
+use Rattle.byte_text.specs.Names.{clean_name, unknown as unknown_name}
 use Rattle.name_numbers.specs.Keys.{NumberEach}
 use Rattle.name_numbers.specs.Texts.{text_at, texts_at, IsInFile}
 use Rattle.name_numbers.specs.FileNames.{by_file_name, file_name, unknown_in}
@@ -86,28 +86,28 @@ module _ (names : List (List ℕ)) (rise : IsStrictlySortedBy (slice_cmp nat_cmp
 
 -- ---- keys by the ranks of names that aren't cleaned
 
-module _ (names clean : List (List ℕ)) (ranks : List ℕ) (each : NumberEach clean ranks (map cleaned names)) where
+module _ (names clean : List (List ℕ)) (ranks : List ℕ) (each : NumberEach clean ranks (map clean_name names)) where
   rank_in : (n : ℕ) → n < length names → slice_index ranks n < length clean
   rank_in n lt =
-      let long = length-map names cleaned in
-      let inside : n < length (map cleaned names) = omega (arith, long) in
-      slice_get_within clean (slice_index ranks n) (get_or (map cleaned names) n [])
-      (each.each n inside ∙ slice_get-get_or (map cleaned names) n [] inside)
+      let long = length-map names clean_name in
+      let inside : n < length (map clean_name names) = omega (arith, long) in
+      slice_get_within clean (slice_index ranks n) (get_or (map clean_name names) n [])
+      (each.each n inside ∙ slice_get-get_or (map clean_name names) n [] inside)
 
-  clean_name : (n : ℕ) → n < length names → get_or clean (slice_index ranks n) [] ≡ cleaned (get_or names n [])
-  clean_name n lt =
-      let long = length-map names cleaned in
-      let inside : n < length (map cleaned names) = omega (arith, long) in
-      get_or_from_slice_get clean (slice_index ranks n) (get_or (map cleaned names) n []) []
-      (each.each n inside ∙ slice_get-get_or (map cleaned names) n [] inside)
-      ∙ get_or-map cleaned names n [] [] lt
+  clean_name_at : (n : ℕ) → n < length names → get_or clean (slice_index ranks n) [] ≡ clean_name (get_or names n [])
+  clean_name_at n lt =
+      let long = length-map names clean_name in
+      let inside : n < length (map clean_name names) = omega (arith, long) in
+      get_or_from_slice_get clean (slice_index ranks n) (get_or (map clean_name names) n []) []
+      (each.each n inside ∙ slice_get-get_or (map clean_name names) n [] inside)
+      ∙ get_or-map clean_name names n [] [] lt
 
   clean_names : (keys : List RankInFile) → All (HasRank (length names)) keys
       → map (name_of_key clean) (map (clean_key ranks) keys) ≡ map (file_name names) keys
   clean_names [] all = refl
   clean_names (key ∷ keys) all =
       let P : RankInFile → Type 0 = HasRank (length names) in
-      (λ i. record { file = key.file; name = clean_name key.rank (first P key keys all) i }
+      (λ i. record { file = key.file; name = clean_name_at key.rank (first P key keys all) i }
       ∷ clean_names keys (rest P key keys all) i)
 
   clean_ranks : (keys : List RankInFile) → All (HasRank (length names)) keys
@@ -136,7 +136,7 @@ pub record AreKeys (file unknown : ℕ) (all apart : List RankInFile) (numbers :
   pub each : NumberEach apart numbers all
   pub there : slice_get apart last ≡ Some (record { file = file; rank = unknown })
 
-module _ (names clean : List (List ℕ)) (ranks : List ℕ) (each : NumberEach clean ranks (map cleaned names)) (unknown : ℕ)
+module _ (names clean : List (List ℕ)) (ranks : List ℕ) (each : NumberEach clean ranks (map clean_name names)) (unknown : ℕ)
     (at : slice_get clean unknown ≡ Some unknown_name) (file : ℕ) (keys all apart : List RankInFile)
     (numbers : List ℕ) (last : ℕ) (some : All (HasRank (length names)) keys) (made : all ≡ map (clean_key ranks) keys)
     (so : AreKeys file unknown all apart numbers last) where

@@ -315,14 +315,14 @@ one_front_up_to names order i d lt alike x y here there =
 
 pub record ArePlaced (bytes : List ℕ) (places : List TextPlace) (order : List Fronted) (i : ℕ) (keys : List TextPlace)
     (numbers : List ℕ) : Type 0 where
-  pub gathered : AreGathered (texts_at bytes places) order i (texts_at bytes keys) numbers
+  pub gather : AreGathered (texts_at bytes places) order i (texts_at bytes keys) numbers
   pub in_file : All (IsInFile bytes) keys
 
 pub none_placed : (bytes : List ℕ) (places : List TextPlace) (order : List Fronted) (numbers : List ℕ)
     → length numbers ≡ length order → ArePlaced bytes places order 0 [] numbers
 none_placed bytes places order numbers as_many =
     record {
-      gathered = names_none (texts_at bytes places) order numbers as_many;
+      gather = names_none (texts_at bytes places) order numbers as_many;
       in_file = λ k d lt. absurd (omega arith);
     }
 
@@ -338,7 +338,7 @@ module _ (bytes : List ℕ) (places : List TextPlace) (order : List Fronted)
       → ArePlaced bytes places order i keys numbers → NumberEach (texts_at bytes keys) numbers names
   placed_all i keys numbers end so =
       numbered_all names order all_names (texts_at bytes keys) numbers
-      (subst (λ n. AreGathered names order n (texts_at bytes keys) numbers) end so.gathered)
+      (subst (λ n. AreGathered names order n (texts_at bytes keys) numbers) end so.gather)
 
   module _ (i : ℕ) (keys : List TextPlace) (numbers : List ℕ) (d : Fronted) (lt : i < length order)
       (so : ArePlaced bytes places order i keys numbers) where
@@ -352,7 +352,7 @@ module _ (bytes : List ℕ) (places : List TextPlace) (order : List Fronted)
         ≡ Some (name_in names one) → 1 ≤ length keys
     some_placed same =
         let some : 1 ≤ length (texts_at bytes keys) =
-        name_before names order all_names i (texts_at bytes keys) numbers one lt is so.gathered (take i order) refl
+        name_before names order all_names i (texts_at bytes keys) numbers one lt is so.gather (take i order) refl
         same in
         omega (arith, some, length-map keys (text_at bytes))
 
@@ -361,9 +361,9 @@ module _ (bytes : List ℕ) (places : List TextPlace) (order : List Fronted)
         → ArePlaced bytes places order (i + 1) keys (slice_set numbers one.number (length keys - 1))
     placed_again same =
         record {
-          gathered = subst (λ n. AreGathered names order (i + 1) (texts_at bytes keys)
+          gather = subst (λ n. AreGathered names order (i + 1) (texts_at bytes keys)
               (slice_set numbers one.number (n - 1))) (length-map keys (text_at bytes))
-              (name_again names order all_names i (texts_at bytes keys) numbers one lt is so.gathered (take i order) refl
+              (name_again names order all_names i (texts_at bytes keys) numbers one lt is so.gather (take i order) refl
               same);
           in_file = so.in_file;
         }
@@ -382,11 +382,11 @@ module _ (bytes : List ℕ) (places : List TextPlace) (order : List Fronted)
         let long : length (texts_at bytes keys ++ name_in names one ∷ []) ≡ length (keys ++ place ∷ []) =
         ap length more ∙ length-map (keys ++ place ∷ []) (text_at bytes) in
         record {
-          gathered = subst (λ n. AreGathered names order (i + 1) (texts_at bytes (keys ++ place ∷ []))
+          gather = subst (λ n. AreGathered names order (i + 1) (texts_at bytes (keys ++ place ∷ []))
               (slice_set numbers one.number (n - 1))) long
               (subst (λ (ks : List (List ℕ)). AreGathered names order (i + 1) ks (slice_set numbers one.number
               (length (texts_at bytes keys ++ name_in names one ∷ []) - 1))) more
-              (another_name names order all_names i (texts_at bytes keys) numbers one lt is so.gathered (take i order)
+              (another_name names order all_names i (texts_at bytes keys) numbers one lt is so.gather (take i order)
               refl sorted other));
           in_file = All-push (IsInFile bytes) keys place so.in_file (in_file one.number p below);
         }

@@ -4,9 +4,9 @@ ghost use Rattle.std.specs.Prelude.{◌≡◌, ◌≤◌, ◌++◌, ◌∷◌, [
 ghost use Rattle.std.specs.List.Sorted.{IsStrictlySortedBy};
 ghost use Rattle.std.specs.Ordering.{nat_cmp};
 ghost use Rattle.std.specs.Cmp.Lexicographic.{slice_cmp};
-ghost use Rattle.byte_text.specs.Names.{cleaned};
+ghost use Rattle.byte_text.specs.Names.{clean_name};
 ghost use Rattle.byte_text.specs.Names.{unknown as unknown_name};
-ghost use Rattle.name_numbers.specs.inner.CleanNames.{printed, is_changed, IsWithin, IsPrinted, Grows};
+ghost use Rattle.name_numbers.specs.inner.CleanNames.{printed_byte, is_changed, IsWithin, IsPrinted, Grows};
 ghost use Rattle.name_numbers.specs.Keys.{NumberEach};
 ghost use Rattle.name_numbers.specs.Texts.{text_at, texts_at, IsInFile};
 
@@ -29,8 +29,8 @@ pub(crate) struct CleanNames {
 }
 
 /// A byte that isn't a printable character of ASCII becomes a question mark.
-fn printed(byte: u8) -> u8
-    ensures { result ≡ printed byte }
+fn printed_byte(byte: u8) -> u8
+    ensures { result ≡ printed_byte byte }
 {
     match byte {
         b' '..=b'~' => byte,
@@ -58,11 +58,11 @@ fn spread(places: &[TextPlace]) -> TextPlace
 
 /// A text with a question mark for each byte that isn't printable.
 fn printed_text(alloc: Global, text: &[u8]) -> Result<Vec<u8>, OutOfMemory>
-    ensures { IfOk result (λ bytes. bytes.items ≡ map printed text.now) }
+    ensures { IfOk result (λ bytes. bytes.items ≡ map printed_byte text.now) }
 {
     let mut bytes = Vec::with_capacity(alloc, text.len())?;
     'text: for byte in text {
-        bytes.push(printed(*byte))?;
+        bytes.push(printed_byte(*byte))?;
     }
     Ok(bytes)
 }
@@ -107,7 +107,7 @@ fn push_clean(
     requires printed { IsPrinted file.now part bytes.old.items }
     ensures grown { OnOk result (Grows bytes.old.items bytes.new.items) }
     ensures in_file { IfOk result (IsInFile bytes.new.items) }
-    ensures text { IfOk result (λ clean. text_at bytes.new.items clean ≡ cleaned (text_at file.now place)) }
+    ensures text { IfOk result (λ clean. text_at bytes.new.items clean ≡ clean_name (text_at file.now place)) }
 {
     let name = &file[place.start..place.end];
     if is_changed(name) {
@@ -135,7 +135,7 @@ fn clean_texts(
     requires printed { IsPrinted file.now part bytes.old.items }
     ensures in_file { IfOk result (λ places. All (IsInFile bytes.new.items) places.items) }
     ensures texts { IfOk result (λ places. texts_at bytes.new.items places.items
-        ≡ map cleaned (texts_at file.now names.now) ++ unknown_name ∷ []) }
+        ≡ map clean_name (texts_at file.now names.now) ++ unknown_name ∷ []) }
 {
     let mut places = Vec::with_capacity(alloc, names.len() + 1)?;
     'names: for place in names {
@@ -150,7 +150,7 @@ pub(crate) fn clean_names(alloc: Global, names: &Names<'_>) -> Result<CleanNames
     ensures rise { IfOk result (λ c. IsStrictlySortedBy (slice_cmp nat_cmp) (texts_at c.bytes.items c.places.items)) }
     ensures in_file { IfOk result (λ c. All (IsInFile c.bytes.items) c.places.items) }
     ensures each { IfOk result (λ c.
-        NumberEach (texts_at c.bytes.items c.places.items) c.ranks.items (map cleaned names.now)) }
+        NumberEach (texts_at c.bytes.items c.places.items) c.ranks.items (map clean_name names.now)) }
     ensures unknown { IfOk result (λ c.
         slice_get (texts_at c.bytes.items c.places.items) c.unknown ≡ Some unknown_name) }
 {

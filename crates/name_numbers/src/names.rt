@@ -11,7 +11,7 @@ ghost use Rattle.name_numbers.specs.inner.Places.{behind, BeginsWith};
 ghost use Rattle.name_numbers.specs.Texts.{text_at, texts_at, IsInFile};
 
 use crate::name_order::{Fronted, in_order, repeats};
-use crate::numbering::{Numbering, numbered, picked};
+use crate::numbering::{Numbering, number_keys, pick};
 use crate::text_place::TextPlace;
 use crate::texts::Texts;
 use byte_text::OutOfMemory;
@@ -77,7 +77,7 @@ fn common_front<'a>(texts: &Texts<'a>, places: &[TextPlace]) -> &'a [u8]
 }
 
 /// The places of names in the order of the names, each name once, and the numbers of all names.
-fn gathered(
+fn gather(
     alloc: Global,
     texts: &Texts<'_>,
     places: &[TextPlace],
@@ -122,8 +122,8 @@ fn rank_apart(
 {
     let common = common_front(texts, &apart.keys);
     let order = in_order(alloc, texts, &apart.keys, common)?;
-    let Numbering { keys, numbers } = gathered(alloc, texts, &apart.keys, &order)?;
-    let numbers = picked(alloc, &numbers, &apart.numbers)?;
+    let Numbering { keys, numbers } = gather(alloc, texts, &apart.keys, &order)?;
+    let numbers = pick(alloc, &numbers, &apart.numbers)?;
     Ok(Numbering { keys, numbers })
 }
 
@@ -139,7 +139,7 @@ pub(crate) fn rank_short(
         (texts_at bytes.now places.items)) }
     ensures few { IfOk result (λ n. length n.keys.items ≤ length places.items) }
 {
-    let apart = numbered(alloc, places)?;
+    let apart = number_keys(alloc, places)?;
     rank_apart(alloc, &Texts::new(bytes), &apart)
 }
 
@@ -156,7 +156,7 @@ pub(crate) fn rank_texts(
         (texts_at bytes.now places.items)) }
     ensures few { IfOk result (λ n. length n.keys.items ≤ length places.items) }
 {
-    let apart = numbered(alloc, places)?;
+    let apart = number_keys(alloc, places)?;
     let texts = Texts::at(alloc, bytes, &apart.keys)?;
     rank_apart(alloc, &texts, &apart)
 }

@@ -60,7 +60,7 @@ fn is_last<K: ExactOrder>(keys: &[K], key: &K) -> bool
 }
 
 /// The keys of a list that is sorted by them, each once, and their numbers at their places.
-fn gathered<K: ExactOrder + Drop>(
+fn gather<K: ExactOrder + Drop>(
     alloc: Global,
     tagged: Vec<Tagged<K>>,
 ) -> Result<Numbering<K>, OutOfMemory>
@@ -89,7 +89,7 @@ fn gathered<K: ExactOrder + Drop>(
 
 /// The keys of a list, each once, and the numbers of all. The list is sorted, which is one pass where it is in order, and
 /// nothing is searched for: what compares texts looks all over the file.
-pub(crate) fn numbered<K: ExactOrder + Drop>(
+pub(crate) fn number_keys<K: ExactOrder + Drop>(
     alloc: Global,
     all: Vec<K>,
 ) -> Result<Numbering<K>, OutOfMemory>
@@ -100,7 +100,7 @@ pub(crate) fn numbered<K: ExactOrder + Drop>(
 {
     let mut tagged = tag(alloc, all)?;
     tagged.sort_unstable_by(|x, y| x.key.cmp(&y.key));
-    gathered(alloc, tagged)
+    gather(alloc, tagged)
 }
 
 /// Keys, each once, in rising order, numbers among them, and the number of one key more.
@@ -127,7 +127,7 @@ pub fn numbered_with<K: ExactOrder + Drop>(
     let mut all = all;
     let place = all.partition_point(|key| *key < last);
     all.insert(place, last)?;
-    let Numbering { keys, mut numbers } = numbered(alloc, all)?;
+    let Numbering { keys, mut numbers } = number_keys(alloc, all)?;
     let last = numbers.remove(place);
     Ok(NumberedWith {
         keys,
@@ -137,17 +137,17 @@ pub fn numbered_with<K: ExactOrder + Drop>(
 }
 
 /// The numbers at these places.
-pub(crate) fn picked(
+pub(crate) fn pick(
     alloc: Global,
     numbers: &[usize],
     places: &[usize],
 ) -> Result<Vec<usize>, OutOfMemory>
     requires { All (λ place. place < length numbers.now) places.now }
-    ensures { IfOk result (λ picked. picked.items ≡ map (slice_index numbers.now) places.now) }
+    ensures { IfOk result (λ chosen. chosen.items ≡ map (slice_index numbers.now) places.now) }
 {
-    let mut picked = Vec::with_capacity(alloc, places.len())?;
+    let mut chosen = Vec::with_capacity(alloc, places.len())?;
     'places: for place in places {
-        picked.push(numbers[*place])?;
+        chosen.push(numbers[*place])?;
     }
-    Ok(picked)
+    Ok(chosen)
 }

@@ -8,7 +8,7 @@ use Rattle.sym_map.specs.SymbolMap.{SymbolMap, place_of}
 use Rattle.shadow_stack.specs.Changes.{change}
 use Rattle.shadow_stack.specs.Kinds.{is_root}
 use Rattle.shadow_stack.specs.Stacks.{Activation}
-use Rattle.shadow_stack.specs.Traces.{Counted, Seen, seen}
+use Rattle.shadow_stack.specs.Traces.{CountedEvent, EventOnStack, events_on_stacks}
 use Rattle.event_costs.specs.Order.{same_arc, same_place}
 use Rattle.recorder.specs.Sums.{arc_calls, arc_cost, pushes}
 use Rattle.recorder.specs.Sums as sums
@@ -43,11 +43,11 @@ product_most (suc zero) m one few = let same : 1 * m ≡ m = omega arith in omeg
 product_most (suc (suc n)) m one few = absurd (omega (arith, one))
 
 -- Over any events, of which there are no more than a run has
-module _ (xs : List Seen) (run : IsRunSized xs) where
-  small : (x : Seen) → Contains xs x → IsSmall x
+module _ (xs : List EventOnStack) (run : IsRunSized xs) where
+  small : (x : EventOnStack) → Contains xs x → IsSmall x
   small x in' = All-contains IsSmall xs x run.small in'
 
-  pub ones_most : (test : Seen → Bool) (kind : ℕ) → sum_by (λ x. if test x then cost_of kind x else 0) xs ≤ 10 ^ 12
+  pub ones_most : (test : EventOnStack → Bool) (kind : ℕ) → sum_by (λ x. if test x then cost_of kind x else 0) xs ≤ 10 ^ 12
   ones_most test kind =
       let most = sum_by-most (λ x. if test x then cost_of kind x else 0) 1 xs
       (each_from (λ x. (if test x then cost_of kind x else 0) ≤ 1) xs
@@ -55,7 +55,7 @@ module _ (xs : List Seen) (run : IsRunSized xs) where
       omega (arith, most, run.events)
 
   pub frames_most : (test : ArcKey → Bool) (kind : ℕ)
-      → ((x : Seen) → Contains xs x → count_by (on_arc test) x.stack ≤ count_by (λ a. not (is_root a.kind)) x.stack)
+      → ((x : EventOnStack) → Contains xs x → count_by (on_arc test) x.stack ≤ count_by (λ a. not (is_root a.kind)) x.stack)
       → sum_by (λ x. cost_of kind x * count_by (on_arc test) x.stack) xs ≤ 10 ^ 12 * 4194304
   frames_most test kind no_root =
       let most = sum_by-most (λ x. cost_of kind x * count_by (on_arc test) x.stack) 4194304 xs
@@ -67,7 +67,7 @@ module _ (xs : List Seen) (run : IsRunSized xs) where
       (omega (arith, frames, few)))) in
       omega (arith, most, run.events)
 
-  pub pushes_most : (f : Seen → ℕ) → ((x : Seen) → f x ≤ 1) → sum_by f xs ≤ 10 ^ 12
+  pub pushes_most : (f : EventOnStack → ℕ) → ((x : EventOnStack) → f x ≤ 1) → sum_by f xs ≤ 10 ^ 12
   pushes_most f one =
       let most = sum_by-most f 1 xs (each_from (λ x. f x ≤ 1) xs (λ x in'. one x)) in
       omega (arith, most, run.events)
@@ -81,43 +81,43 @@ frame-one test (Some a) = by (on_arc test a) (count-cons (on_arc test) a [])
     by false count = omega (arith, count)
 
 -- frames that were entered by an arc are no roots, on the stacks of a trace
-no_roots_of : (syms : SymbolMap) (trace : List Counted) (test : ArcKey → Bool) (x : Seen) → Contains (seen syms trace) x
+no_roots_of : (syms : SymbolMap) (trace : List CountedEvent) (test : ArcKey → Bool) (x : EventOnStack) → Contains (events_on_stacks syms trace) x
     → count_by (on_arc test) x.stack ≤ count_by (λ a. not (is_root a.kind)) x.stack
 no_roots_of syms trace test x in' =
     no_roots (Steps (graph syms trace)) test x.stack
-    (each_at (λ (y : Seen). IsChain (Steps (graph syms trace)) y.stack) (seen syms trace)
+    (each_at (λ (y : EventOnStack). IsChain (Steps (graph syms trace)) y.stack) (events_on_stacks syms trace)
     (chains (Steps (graph syms trace)) syms trace (λ f g s. s)) x in')
 
-pub self_most : (syms : SymbolMap) (xs : List Seen) (kind : ℕ) (place : Place) → IsRunSized xs
+pub self_most : (syms : SymbolMap) (xs : List EventOnStack) (kind : ℕ) (place : Place) → IsRunSized xs
     → sums.self_cost syms kind place xs < 2 ^ 62
 self_most syms xs kind place run =
     let most = ones_most xs run (λ x. same_place place (place_of syms x.event.done.pc)) kind in
     omega (arith, most)
 
-pub arc_most : (syms : SymbolMap) (trace : List Counted) (xs : List Seen) (kind : ℕ) (arc : ArcKey)
-    → All (Contains (seen syms trace)) xs → IsRunSized xs
+pub arc_most : (syms : SymbolMap) (trace : List CountedEvent) (xs : List EventOnStack) (kind : ℕ) (arc : ArcKey)
+    → All (Contains (events_on_stacks syms trace)) xs → IsRunSized xs
     → arc_cost kind arc xs < 2 ^ 62
 arc_most syms trace xs kind arc of_trace run =
     let most =
     frames_most xs run (same_arc arc) kind
     (λ x in'. no_roots_of syms trace (same_arc arc) x
-    (All-contains (Contains (seen syms trace)) xs x of_trace in')) in
+    (All-contains (Contains (events_on_stacks syms trace)) xs x of_trace in')) in
     omega (arith, most)
 
-pub calls_most : (syms : SymbolMap) (xs : List Seen) (arc : ArcKey) → IsRunSized xs → arc_calls syms arc xs < 2 ^ 62
+pub calls_most : (syms : SymbolMap) (xs : List EventOnStack) (arc : ArcKey) → IsRunSized xs → arc_calls syms arc xs < 2 ^ 62
 calls_most syms xs arc run =
     let most = pushes_most xs run (λ x. pushes arc (change syms x.event x.stack).pushed)
     (λ x. pushes_one arc (change syms x.event x.stack).pushed) in
     omega (arith, most)
 
 -- The sums of a profile
-module _ (syms : SymbolMap) (trace : List Counted) (n : Numbering) (p : Contents) (is : IsProfileOf syms trace n p)
-    (run : IsRunSized (seen syms trace)) where
+module _ (syms : SymbolMap) (trace : List CountedEvent) (n : Numbering) (p : Contents) (is : IsProfileOf syms trace n p)
+    (run : IsRunSized (events_on_stacks syms trace)) where
   call_most : (test : ℕ → ℕ → Bool) (kind : ℕ) → kind < length p.events
       → sum_by (λ (row : CallRow). if test row.caller row.callee then get_or row.cost kind 0 else 0) p.call_rows
       ≤ 10 ^ 12 * 4194304
   call_most test kind within =
-      let most = frames_most (seen syms trace) run (λ arc. test (n.func arc.caller.0) (n.func arc.callee.0)) kind
+      let most = frames_most (events_on_stacks syms trace) run (λ arc. test (n.func arc.caller.0) (n.func arc.callee.0)) kind
       (λ x in'. no_roots_of syms trace (λ arc. test (n.func arc.caller.0) (n.func arc.callee.0)) x in') in
       omega (arith, most, call_sum syms trace n p is test kind within)
 
@@ -130,7 +130,7 @@ module _ (syms : SymbolMap) (trace : List Counted) (n : Numbering) (p : Contents
       let events = all_calls_where syms trace is.parts is.exact
       (λ arc. n.func arc.caller.0 == caller && n.func arc.callee.0 == callee) in
       let most =
-      pushes_most (seen syms trace) run
+      pushes_most (events_on_stacks syms trace) run
       (λ x. count_by (on_arc (λ arc. n.func arc.caller.0 == caller && n.func arc.callee.0 == callee))
       (pushed_by syms x))
       (λ x. frame-one (λ arc. n.func arc.caller.0 == caller && n.func arc.callee.0 == callee)
@@ -140,14 +140,14 @@ module _ (syms : SymbolMap) (trace : List Counted) (n : Numbering) (p : Contents
   pub sum_most : (position sum : ℕ) → IsSum p position sum → sum < 2 ^ 62
   sum_most position sum (of_total kind within) =
       let self = self_sum syms trace n p is (λ f. true) kind within in
-      let most = ones_most (seen syms trace) run (λ x. true) kind in
+      let most = ones_most (events_on_stacks syms trace) run (λ x. true) kind in
       omega (arith, self, most)
   sum_most position sum (of_pair kind caller callee within) =
       let most = call_most (λ f g. f == caller && g == callee) kind within in
       omega (arith, most)
   sum_most position sum (of_group kind member within group) =
       let self = self_sum syms trace n p is member kind within in
-      let most = ones_most (seen syms trace) run (λ x. member (n.func (place_of syms x.event.done.pc).func.0)) kind in
+      let most = ones_most (events_on_stacks syms trace) run (λ x. member (n.func (place_of syms x.event.done.pc).func.0)) kind in
       let leaving = call_most (λ f g. member f && not (member g)) kind within in
       omega (arith, self, most, leaving)
   sum_most position sum (of_calls caller callee) =

@@ -9,7 +9,7 @@ use Rattle.sym_map.specs.SymbolMap.{SymbolMap}
 use Rattle.sym_map.proofs.Members.{first_or_rest}
 use Rattle.shadow_stack.specs.Changes.{change}
 use Rattle.shadow_stack.specs.Stacks.{Activation, Stack}
-use Rattle.shadow_stack.specs.Traces.{Counted, Seen, seen}
+use Rattle.shadow_stack.specs.Traces.{CountedEvent, EventOnStack, events_on_stacks}
 use Rattle.arc_costs.specs.Arcs.{is_some_arc}
 use Rattle.event_costs.specs.Order.{same_arc}
 use Rattle.arc_costs.specs.Totals.{is_some_cost}
@@ -58,12 +58,12 @@ by_arc arc a is = by a.arc refl is
     by (Some b) from same = record { is = from ∙ ap Some (sym (one_arc arc b same)) }
 
 -- some event pushes an arc that isn't called in vain
-called : (syms : SymbolMap) (trace : List Counted) (arc : ArcKey)
-    → 0 < sum_by (λ x. count_by (on_arc (same_arc arc)) (pushed_by syms x)) (seen syms trace)
+called : (syms : SymbolMap) (trace : List CountedEvent) (arc : ArcKey)
+    → 0 < sum_by (λ x. count_by (on_arc (same_arc arc)) (pushed_by syms x)) (events_on_stacks syms trace)
     → Steps (graph syms trace) arc.caller.0 arc.callee.0
 called syms trace arc more =
-    let found = sum-some (λ x. count_by (on_arc (same_arc arc)) (pushed_by syms x)) (seen syms trace) more in
-    Contains-flat_map (arcs_pushed syms) (seen syms trace) found.item (between arc) found.among
+    let found = sum-some (λ x. count_by (on_arc (same_arc arc)) (pushed_by syms x)) (events_on_stacks syms trace) more in
+    Contains-flat_map (arcs_pushed syms) (events_on_stacks syms trace) found.item (between arc) found.among
     (by (change syms found.item.event found.item.stack).pushed found.has)
   where
     by : (o : Option Activation) → 0 < count_by (on_arc (same_arc arc)) (pushed_stack o)
@@ -76,14 +76,14 @@ called syms trace arc more =
         arcs_has (Some a) a arc refl (ap (λ (b : Activation). b.arc) here ∙ (by_arc arc frame.item frame.has).is)
 
 -- some event ran above an arc that has a cost
-ran : (syms : SymbolMap) (trace : List Counted) (kind : ℕ) (arc : ArcKey)
-    → 0 < sum_by (λ x. cost_of kind x * count_by (on_arc (same_arc arc)) x.stack) (seen syms trace)
+ran : (syms : SymbolMap) (trace : List CountedEvent) (kind : ℕ) (arc : ArcKey)
+    → 0 < sum_by (λ x. cost_of kind x * count_by (on_arc (same_arc arc)) x.stack) (events_on_stacks syms trace)
     → Steps (graph syms trace) arc.caller.0 arc.callee.0
 ran syms trace kind arc more =
-    let found = sum-some (λ x. cost_of kind x * count_by (on_arc (same_arc arc)) x.stack) (seen syms trace) more in
+    let found = sum-some (λ x. cost_of kind x * count_by (on_arc (same_arc arc)) x.stack) (events_on_stacks syms trace) more in
     let frame = count-some (on_arc (same_arc arc)) found.item.stack
     (factor (cost_of kind found.item) (count_by (on_arc (same_arc arc)) found.item.stack) found.has) in
-    let chain = each_at (λ (x : Seen). IsChain (Steps (graph syms trace)) x.stack) (seen syms trace)
+    let chain = each_at (λ (x : EventOnStack). IsChain (Steps (graph syms trace)) x.stack) (events_on_stacks syms trace)
     (chains (Steps (graph syms trace)) syms trace (λ f g s. s)) found.item found.among in
     chain_step (Steps (graph syms trace)) found.item.stack frame.item arc chain frame.among
     (by_arc arc frame.item frame.has).is
@@ -121,7 +121,7 @@ some_of_cost (n ∷ cost) is = by n is (some_of_cost cost)
     by zero is rest = let later = rest is in record { kind = suc later.kind; more = later.more }
     by (suc n) is rest = record { kind = 0; more = omega arith }
 
-module _ (syms : SymbolMap) (trace : List Counted) (parts : List (List ThreadRows))
+module _ (syms : SymbolMap) (trace : List CountedEvent) (parts : List (List ThreadRows))
     (are : ArePartsOfTrace syms trace parts) where
   -- a row isn't all 0
   row_some : (row : ArcRow) → Contains (all_arcs parts) row → is_some_arc row ≡ true
@@ -161,10 +161,10 @@ module _ (syms : SymbolMap) (trace : List Counted) (parts : List (List ThreadRow
   pub to_row : (f g : ℕ) → Steps (graph syms trace) f g
       → Some_of (λ (row : ArcRow). (row.arc.caller.0 ≡ f) × (row.arc.callee.0 ≡ g)) (all_arcs parts)
   to_row f g step =
-      let event = from_flat_map (arcs_pushed syms) (seen syms trace) (record { caller = f; callee = g }) step in
+      let event = from_flat_map (arcs_pushed syms) (events_on_stacks syms trace) (record { caller = f; callee = g }) step in
       by event.item event.among (change syms event.item.event event.item.stack).pushed refl event.has
     where
-      with_arc : (x : Seen) → Contains (seen syms trace) x → (a : Activation) (o : Option ArcKey)
+      with_arc : (x : EventOnStack) → Contains (events_on_stacks syms trace) x → (a : Activation) (o : Option ArcKey)
           → (change syms x.event x.stack).pushed ≡ Some a → a.arc ≡ o
           → Contains (option_map_or (λ arc. between arc ∷ []) o []) (record { caller = f; callee = g })
           → Some_of (λ (row : ArcRow). (row.arc.caller.0 ≡ f) × (row.arc.callee.0 ≡ g)) (all_arcs parts)
@@ -175,7 +175,7 @@ module _ (syms : SymbolMap) (trace : List Counted) (parts : List (List ThreadRow
           (first_or_rest (between arc) [] (record { caller = f; callee = g }) has) in
           let count = ap (λ o. count_by (on_arc (same_arc arc)) (pushed_stack o)) pushed in
           let once = one_frame arc a from in
-          let part = le-sum (λ y. count_by (on_arc (same_arc arc)) (pushed_by syms y)) (seen syms trace) x in' in
+          let part = le-sum (λ y. count_by (on_arc (same_arc arc)) (pushed_by syms y)) (events_on_stacks syms trace) x in' in
           let found = sum-some (λ (r : ArcRow). if same_arc arc r.arc then r.calls else 0) (all_arcs parts)
           (omega (arith, count, once, part, all_calls_where syms trace parts are (same_arc arc))) in
           let key = one_arc arc found.item.arc (passes (same_arc arc found.item.arc) found.item.calls found.has) in
@@ -188,7 +188,7 @@ module _ (syms : SymbolMap) (trace : List Counted) (parts : List (List ThreadRow
             );
           }
 
-      by : (x : Seen) → Contains (seen syms trace) x → (o : Option Activation)
+      by : (x : EventOnStack) → Contains (events_on_stacks syms trace) x → (o : Option Activation)
           → (change syms x.event x.stack).pushed ≡ o → Contains (arcs_of o) (record { caller = f; callee = g })
           → Some_of (λ (row : ArcRow). (row.arc.caller.0 ≡ f) × (row.arc.callee.0 ≡ g)) (all_arcs parts)
       by x in' None pushed has = absurd (let none = has.1 in omega (arith, none))

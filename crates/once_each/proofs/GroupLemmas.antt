@@ -2,7 +2,7 @@
 use Rattle.std.proofs.Common.{◌≡◌, ℕ, ◌↔◌, List, map, refl, sym, ap, subst, ◌∙◌, Contains, inl, inr}
 use Rattle.sym_map.specs.SymbolMap.{SymbolMap}
 use Rattle.sym_map.proofs.Members.{Contains-from_map, Contains-map}
-use Rattle.shadow_stack.specs.Traces.{Counted}
+use Rattle.shadow_stack.specs.Traces.{CountedEvent}
 use Rattle.arc_costs.specs.Rows.{ArcRow}
 use Rattle.call_graph.specs.Reach.{Reach, SameGroup, Steps, one, more}
 use Rattle.call_graph.specs.declared.arc.CallArc.{CallArc}
@@ -16,7 +16,7 @@ use Rattle.once_each.specs.Profiles.{IsProfileOf, Numbering, call_row}
 use Rattle.once_each.proofs.GraphLemmas.{from_row, to_row}
 use Rattle.once_each.proofs.LawLemmas.{graph_to, leads_to}
 
-module _ (syms : SymbolMap) (trace : List Counted) (parts : List (List ThreadRows))
+module _ (syms : SymbolMap) (trace : List CountedEvent) (parts : List (List ThreadRows))
     (are : ArePartsOfTrace syms trace parts) where
   to_rows : (f g : ℕ) → Steps (graph syms trace) f g → Steps (row_arcs parts) f g
   to_rows f g step =
@@ -41,7 +41,7 @@ module _ (syms : SymbolMap) (trace : List Counted) (parts : List (List ThreadRow
 
 -- Back from the numbers of a profile. Those who take part are among these functions, and no other of these has a number
 -- of theirs.
-module _ (syms : SymbolMap) (trace : List Counted) (n : Numbering) (p : Contents) (is : IsProfileOf syms trace n p)
+module _ (syms : SymbolMap) (trace : List CountedEvent) (n : Numbering) (p : Contents) (is : IsProfileOf syms trace n p)
     (Is : ℕ → Type 0) (takes : (f : ℕ) → TakesPart (graph syms trace) f → Is f)
     (own : (f g : ℕ) → TakesPart (graph syms trace) f → Is g → n.func g ≡ n.func f → g ≡ f) where
   -- a step of the profile is one of the graph

@@ -12,8 +12,8 @@ use Rattle.sym_map.proofs.Members.{first_or_rest}
 use Rattle.shadow_stack.specs.declared.frame.Kind.{Kind}
 use Rattle.shadow_stack.specs.Kinds.{is_root}
 use Rattle.shadow_stack.specs.Stacks.{Activation, Stack, root}
-use Rattle.shadow_stack.specs.Changes.{after, change, entered, next_func, with_pushed}
-use Rattle.shadow_stack.specs.Traces.{Counted, Seen, is_by, own, seen, seen_from, stack_after, stack_of}
+use Rattle.shadow_stack.specs.Changes.{after, change, new_activation, next_func, with_pushed}
+use Rattle.shadow_stack.specs.Traces.{CountedEvent, EventOnStack, is_by, events_by, events_on_stacks, events_on_stacks_from, stack_after, stack_of}
 use Rattle.shadow_stack.proofs.ChangeLemmas.{change-end}
 use Rattle.call_graph.specs.Reach.{IsGroup, SameGroup, Steps}
 use Rattle.call_graph.specs.declared.arc.CallArc.{CallArc}
@@ -50,20 +50,20 @@ module _ (syms : SymbolMap) where
   known_after : (e : Event) (s : Stack) → AreKnown s → IsKnownEvent e → AreKnown (after syms s e)
   known_after e s known event = by (change syms e s).pushed (change-entered syms e s)
     where
-      kept : AreKnown (change syms e s).kept
+      kept : AreKnown (change syms e s).rest
       kept =
           let ends = change-end syms e s in
-          known_end ends.front (change syms e s).kept (subst (λ (t : Stack). AreKnown t) ends.whole known)
+          known_end ends.front (change syms e s).rest (subst (λ (t : Stack). AreKnown t) ends.whole known)
 
       by : (o : Option Activation)
           → (o ≡ None)
-          ⊎ ((kind : Kind) × (is_root kind ≡ false) × (o ≡ Some (entered syms e kind (change syms e s).kept)))
-          → AreKnown (with_pushed o (change syms e s).kept)
+          ⊎ ((kind : Kind) × (is_root kind ≡ false) × (o ≡ Some (new_activation syms e kind (change syms e s).rest)))
+          → AreKnown (with_pushed o (change syms e s).rest)
       by None is = kept
       by (Some a) (inl none) = absurd (cc)
       by (Some a) (inr some) =
-          let a_is : Some a ≡ Some (entered syms e some.0 (change syms e s).kept) = some.2 in
-          let same : a ≡ entered syms e some.0 (change syms e s).kept = cc in
+          let a_is : Some a ≡ Some (new_activation syms e some.0 (change syms e s).rest) = some.2 in
+          let same : a ≡ new_activation syms e some.0 (change syms e s).rest = cc in
           let func : a.func.0 ≡ (next_func syms e).0 = ap (λ (b : Activation). b.func.0) same in
           (subst (λ f. f < length syms.functions) (sym func) event.1, kept)
 
@@ -77,65 +77,65 @@ module _ (syms : SymbolMap) where
   known_stack [] pc events known = (known, tt)
   known_stack (e ∷ es) pc events known = known_all (root syms e.done.pc) (e ∷ es) (events.0.0, tt) events
 
-  abbrev AreKnownEvents : List Counted → Type 0
-  AreKnownEvents xs = AllByRecursion (λ (x : Counted). IsKnownEvent x.event) xs
+  abbrev AreKnownEvents : List CountedEvent → Type 0
+  AreKnownEvents xs = AllByRecursion (λ (x : CountedEvent). IsKnownEvent x.event) xs
 
-  known_own : (thread : ThreadNo) (xs : List Counted) → AreKnownEvents xs → AllByRecursion IsKnownEvent (own thread xs)
+  known_own : (thread : ThreadNo) (xs : List CountedEvent) → AreKnownEvents xs → AllByRecursion IsKnownEvent (events_by thread xs)
   known_own thread [] events = tt
   known_own thread (x ∷ xs) events = by (is_by thread x) (known_own thread xs events.1)
     where
-      by : (b : Bool) → AllByRecursion IsKnownEvent (own thread xs)
+      by : (b : Bool) → AllByRecursion IsKnownEvent (events_by thread xs)
           → AllByRecursion IsKnownEvent
-          (map (λ (y : Counted). y.event) (cond b (x ∷ filter (is_by thread) xs) (filter (is_by thread) xs)))
+          (map (λ (y : CountedEvent). y.event) (cond b (x ∷ filter (is_by thread) xs) (filter (is_by thread) xs)))
       by true rest = (events.0, rest)
       by false rest = rest
 
-  known_push : (xs : List Counted) (x : Counted) → AreKnownEvents xs → IsKnownEvent x.event
+  known_push : (xs : List CountedEvent) (x : CountedEvent) → AreKnownEvents xs → IsKnownEvent x.event
       → AreKnownEvents (xs ++ x ∷ [])
   known_push [] x events event = (event, tt)
   known_push (y ∷ ys) x events event = (events.0, known_push ys x events.1 event)
 
   -- what is known of an event with the stack before it
-  abbrev IsKnownSeen : Seen → Type 0
+  abbrev IsKnownSeen : EventOnStack → Type 0
   IsKnownSeen x = AreKnown x.stack × IsKnownEvent x.event
 
-  known_from : (earlier xs : List Counted) → AreKnownEvents earlier → AreKnownEvents xs
-      → AllByRecursion IsKnownSeen (seen_from syms earlier xs)
+  known_from : (earlier xs : List CountedEvent) → AreKnownEvents earlier → AreKnownEvents xs
+      → AllByRecursion IsKnownSeen (events_on_stacks_from syms earlier xs)
   known_from earlier [] before events = tt
   known_from earlier (x ∷ xs) before events = (
     (
-      known_stack (own x.event.thread earlier) x.event.done.pc (known_own x.event.thread earlier before) events.0.0,
+      known_stack (events_by x.event.thread earlier) x.event.done.pc (known_own x.event.thread earlier before) events.0.0,
       events.0,
     ),
     known_from (earlier ++ x ∷ []) xs (known_push earlier x before events.0) events.1,
   )
 
-  module _ (trace : List Counted) (of_map : AreOfMap syms trace) where
-    known_seen : AllByRecursion IsKnownSeen (seen syms trace)
-    known_seen = known_from [] trace tt (recursion_from_All (λ (x : Counted). IsKnownEvent x.event) trace of_map)
+  module _ (trace : List CountedEvent) (of_map : AreOfMap syms trace) where
+    known_seen : AllByRecursion IsKnownSeen (events_on_stacks syms trace)
+    known_seen = known_from [] trace tt (recursion_from_All (λ (x : CountedEvent). IsKnownEvent x.event) trace of_map)
 
-    pub stacks_of_map : All (λ x. All (λ a. a.func.0 < length syms.functions) x.stack) (seen syms trace)
+    pub stacks_of_map : All (λ x. All (λ a. a.func.0 < length syms.functions) x.stack) (events_on_stacks syms trace)
     stacks_of_map =
-        All-from_recursion (λ (x : Seen). All (λ (a : Activation). a.func.0 < length syms.functions) x.stack)
-        (seen syms trace)
-        (each_from (λ (x : Seen). All (λ (a : Activation). a.func.0 < length syms.functions) x.stack) (seen syms trace)
+        All-from_recursion (λ (x : EventOnStack). All (λ (a : Activation). a.func.0 < length syms.functions) x.stack)
+        (events_on_stacks syms trace)
+        (each_from (λ (x : EventOnStack). All (λ (a : Activation). a.func.0 < length syms.functions) x.stack) (events_on_stacks syms trace)
         (λ x in'. All-from_recursion (λ (a : Activation). a.func.0 < length syms.functions) x.stack
-        (each_at IsKnownSeen (seen syms trace) known_seen x in').0))
+        (each_at IsKnownSeen (events_on_stacks syms trace) known_seen x in').0))
 
     -- ---- the graph
 
     known_step : (f g : ℕ) → Steps (graph syms trace) f g → IsKnown f × IsKnown g
     known_step f g step =
-        let x = from_flat_map (arcs_pushed syms) (seen syms trace) (record { caller = f; callee = g }) step in
-        let known = each_at IsKnownSeen (seen syms trace) known_seen x.item x.among in
+        let x = from_flat_map (arcs_pushed syms) (events_on_stacks syms trace) (record { caller = f; callee = g }) step in
+        let known = each_at IsKnownSeen (events_on_stacks syms trace) known_seen x.item x.among in
         let ends = change-end syms x.item.event x.item.stack in
-        let kept = known_end ends.front (change syms x.item.event x.item.stack).kept
+        let kept = known_end ends.front (change syms x.item.event x.item.stack).rest
         (subst (λ (t : Stack). AreKnown t) ends.whole known.0) in
-        by x.item.event known.1 (change syms x.item.event x.item.stack).kept kept
+        by x.item.event known.1 (change syms x.item.event x.item.stack).rest kept
         (change syms x.item.event x.item.stack).pushed (change-entered syms x.item.event x.item.stack) x.has
       where
         on : (e : Event) → IsKnownEvent e → (kind : Kind) (s : Stack) → AreKnown s
-            → Contains (arcs_of (Some (entered syms e kind s))) (record { caller = f; callee = g })
+            → Contains (arcs_of (Some (new_activation syms e kind s))) (record { caller = f; callee = g })
             → IsKnown f × IsKnown g
         on e event kind [] known has = absurd (let none = has.1 in omega (arith, none))
         on e event kind (b ∷ s) known has =
@@ -148,7 +148,7 @@ module _ (syms : SymbolMap) where
             )
 
         by : (e : Event) → IsKnownEvent e → (s : Stack) → AreKnown s → (o : Option Activation)
-            → (o ≡ None) ⊎ ((kind : Kind) × (is_root kind ≡ false) × (o ≡ Some (entered syms e kind s)))
+            → (o ≡ None) ⊎ ((kind : Kind) × (is_root kind ≡ false) × (o ≡ Some (new_activation syms e kind s)))
             → Contains (arcs_of o) (record { caller = f; callee = g }) → IsKnown f × IsKnown g
         by e event s known None is has = absurd (let none = has.1 in omega (arith, none))
         by e event s known (Some a) (inl none) has = absurd (cc)
@@ -173,15 +173,15 @@ module _ (syms : SymbolMap) where
       pub function_once : (group member : ℕ → Bool) (func kind : ℕ) → FitTops syms trace → kind < length p.events
           → func < length syms.functions → IsOwn syms n.func func → IsGroup (Steps (graph syms trace)) group
           → group func ≡ true → IsGroup (Steps (call_arcs p)) member → member (n.func func) ≡ true
-          → inclusive_cost member p kind ≡ once group kind (seen syms trace)
+          → inclusive_cost member p kind ≡ once group kind (events_on_stacks syms trace)
       function_once group member func kind tops within known mine of_graph here of_profile there =
           group_once syms trace n p is member kind tops within of_profile
           ∙ sum_by-each (λ x. if stands (λ f. member (n.func f)) x.stack then cost_of kind x else 0)
-          (λ x. if stands group x.stack then cost_of kind x else 0) (seen syms trace)
+          (λ x. if stands group x.stack then cost_of kind x else 0) (events_on_stacks syms trace)
           (each_from (λ x. (if stands (λ f. member (n.func f)) x.stack then cost_of kind x else 0)
-          ≡ (if stands group x.stack then cost_of kind x else 0)) (seen syms trace)
+          ≡ (if stands group x.stack then cost_of kind x else 0)) (events_on_stacks syms trace)
           (λ x in'. ap (λ b. if b then cost_of kind x else 0)
-          (same_stands x.stack (each_at IsKnownSeen (seen syms trace) known_seen x in').0)))
+          (same_stands x.stack (each_at IsKnownSeen (events_on_stacks syms trace) known_seen x in').0)))
         where
           bool_same : (a b : Bool) → (a ≡ true → b ≡ true) → (b ≡ true → a ≡ true) → a ≡ b
           bool_same true b forth back = sym (forth refl)
@@ -205,7 +205,7 @@ module _ (syms : SymbolMap) where
           → callee < length syms.functions → IsOwn syms n.func caller → IsOwn syms n.func callee
           → (SameGroup (Steps (graph syms trace)) caller callee → ⊥)
           → pair_cost (n.func caller) (n.func callee) p.call_rows kind
-          ≡ once_pair (λ f. f == caller) (λ f. f == callee) kind (seen syms trace)
+          ≡ once_pair (λ f. f == caller) (λ f. f == callee) kind (events_on_stacks syms trace)
       functions_once caller callee kind within known_caller known_callee mine theirs apart =
           pair_once syms trace n p is (n.func caller) (n.func callee) kind within
           (λ same. apart ((known_groups caller callee known_caller known_callee mine).1 same))
@@ -213,15 +213,15 @@ module _ (syms : SymbolMap) where
           (λ x. if stands_on (λ f. n.func f == n.func caller) (λ f. n.func f == n.func callee) x.stack
           then cost_of kind x else 0)
           (λ x. if stands_on (λ f. f == caller) (λ f. f == callee) x.stack then cost_of kind x else 0)
-          (seen syms trace)
+          (events_on_stacks syms trace)
           (each_from (λ x. (if stands_on (λ f. n.func f == n.func caller) (λ f. n.func f == n.func callee) x.stack
           then cost_of kind x else 0)
-          ≡ (if stands_on (λ f. f == caller) (λ f. f == callee) x.stack then cost_of kind x else 0)) (seen syms trace)
+          ≡ (if stands_on (λ f. f == caller) (λ f. f == callee) x.stack then cost_of kind x else 0)) (events_on_stacks syms trace)
           (λ x in'. ap (λ b. if b then cost_of kind x else 0)
-          (same_stands x.stack (each_at IsKnownSeen (seen syms trace) known_seen x in').0)))
+          (same_stands x.stack (each_at IsKnownSeen (events_on_stacks syms trace) known_seen x in').0)))
         where
           one : (h f : ℕ) → f < length syms.functions → IsOwn syms n.func h → (n.func f == n.func h) ≡ (f == h)
-          one h f known own = by (f == h) refl
+          one h f known is_own = by (f == h) refl
             where
               by : (b : Bool) → (f == h) ≡ b → (n.func f == n.func h) ≡ b
               by true is = eq-eqb (n.func f) (n.func h) (ap n.func (eqb-true f h is))
@@ -230,7 +230,7 @@ module _ (syms : SymbolMap) where
                   go : (c : Bool) → (n.func f == n.func h) ≡ c → c ≡ false
                   go false so = refl
                   go true so =
-                      let same : f ≡ h = own f known (eqb-true (n.func f) (n.func h) so) in
+                      let same : f ≡ h = is_own f known (eqb-true (n.func f) (n.func h) so) in
                       sym (eq-eqb f h same) ∙ is
 
           same_stands : (s : Stack) → AreKnown s

@@ -11,7 +11,7 @@ use Rattle.event_costs.specs.declared.numbers.FuncId.{FuncId}
 use Rattle.sym_map.specs.SymbolMap.{SymbolMap, place_of}
 use Rattle.sym_map.proofs.Members.{Contains-map}
 use Rattle.shadow_stack.specs.Stacks.{Stack, top_of}
-use Rattle.shadow_stack.specs.Traces.{Counted, Seen, seen}
+use Rattle.shadow_stack.specs.Traces.{CountedEvent, EventOnStack, events_on_stacks}
 use Rattle.arc_costs.specs.Rows.{ArcRow, LineRow}
 use Rattle.call_graph.specs.Reach.{IsGroup, Reach, SameGroup, Steps, one, more}
 use Rattle.call_graph.specs.inner.Pass.{Leads}
@@ -68,12 +68,12 @@ share cost leaving false true sum = let single : leaving ≡ 1 = omega (arith, s
 share cost leaving false false sum = let none : leaving ≡ 0 = omega (arith, sum) in
     let product : cost * leaving ≡ cost * 0 = ap (λ n. cost * n) none in omega (arith, product)
 
-module _ (syms : SymbolMap) (trace : List Counted) (Step : ℕ → ℕ → Type 0)
+module _ (syms : SymbolMap) (trace : List CountedEvent) (Step : ℕ → ℕ → Type 0)
     (to : (f g : ℕ) → Steps (graph syms trace) f g → Step f g) where
-  stacks : AllByRecursion (λ (x : Seen). IsChain Step x.stack) (seen syms trace)
+  stacks : AllByRecursion (λ (x : EventOnStack). IsChain Step x.stack) (events_on_stacks syms trace)
   stacks = chains Step syms trace to
 
-  event_once : (member : ℕ → Bool) (kind : ℕ) → IsClosed Step member → (x : Seen) → FitsTop syms x
+  event_once : (member : ℕ → Bool) (kind : ℕ) → IsClosed Step member → (x : EventOnStack) → FitsTop syms x
       → IsChain Step x.stack
       → (if member (place_of syms x.event.done.pc).func.0 then cost_of kind x else 0) + cost_of kind x * count_by
       (on_arc (leaves member)) x.stack
@@ -93,36 +93,36 @@ module _ (syms : SymbolMap) (trace : List Counted) (Step : ℕ → ℕ → Type 
           ∙ one_leaves Step member a s closed chain)
 
   events_once : (member : ℕ → Bool) (kind : ℕ) → IsClosed Step member → FitTops syms trace
-      → sum_by (λ x. if member (place_of syms x.event.done.pc).func.0 then cost_of kind x else 0) (seen syms trace)
-      + sum_by (λ x. cost_of kind x * count_by (on_arc (leaves member)) x.stack) (seen syms trace)
-      ≡ once member kind (seen syms trace)
+      → sum_by (λ x. if member (place_of syms x.event.done.pc).func.0 then cost_of kind x else 0) (events_on_stacks syms trace)
+      + sum_by (λ x. cost_of kind x * count_by (on_arc (leaves member)) x.stack) (events_on_stacks syms trace)
+      ≡ once member kind (events_on_stacks syms trace)
   events_once member kind closed tops =
       sym (sum_by-plus (λ x. if member (place_of syms x.event.done.pc).func.0 then cost_of kind x else 0)
-      (λ x. cost_of kind x * count_by (on_arc (leaves member)) x.stack) (seen syms trace))
+      (λ x. cost_of kind x * count_by (on_arc (leaves member)) x.stack) (events_on_stacks syms trace))
       ∙ sum_by-each
       (λ x. (if member (place_of syms x.event.done.pc).func.0 then cost_of kind x else 0)
       + cost_of kind x * count_by (on_arc (leaves member)) x.stack)
-      (λ x. if stands member x.stack then cost_of kind x else 0) (seen syms trace)
+      (λ x. if stands member x.stack then cost_of kind x else 0) (events_on_stacks syms trace)
       (each_from
       (λ x. (if member (place_of syms x.event.done.pc).func.0 then cost_of kind x else 0)
       + cost_of kind x * count_by (on_arc (leaves member)) x.stack
       ≡ (if stands member x.stack then cost_of kind x else 0))
-      (seen syms trace)
-      (λ x in'. event_once member kind closed x (All-contains (FitsTop syms) (seen syms trace) x tops in')
-      (each_at (λ (y : Seen). IsChain Step y.stack) (seen syms trace) stacks x in')))
+      (events_on_stacks syms trace)
+      (λ x in'. event_once member kind closed x (All-contains (FitsTop syms) (events_on_stacks syms trace) x tops in')
+      (each_at (λ (y : EventOnStack). IsChain Step y.stack) (events_on_stacks syms trace) stacks x in')))
 
   pairs_once : (caller callee : ℕ → Bool) (kind : ℕ) → IsOneWay Step caller callee
-      → sum_by (λ x. cost_of kind x * count_by (on_arc (links caller callee)) x.stack) (seen syms trace)
-      ≡ once_pair caller callee kind (seen syms trace)
+      → sum_by (λ x. cost_of kind x * count_by (on_arc (links caller callee)) x.stack) (events_on_stacks syms trace)
+      ≡ once_pair caller callee kind (events_on_stacks syms trace)
   pairs_once caller callee kind way =
       sum_by-each (λ x. cost_of kind x * count_by (on_arc (links caller callee)) x.stack)
-      (λ x. if stands_on caller callee x.stack then cost_of kind x else 0) (seen syms trace)
+      (λ x. if stands_on caller callee x.stack then cost_of kind x else 0) (events_on_stacks syms trace)
       (each_from
       (λ x. cost_of kind x * count_by (on_arc (links caller callee)) x.stack
-      ≡ (if stands_on caller callee x.stack then cost_of kind x else 0)) (seen syms trace)
+      ≡ (if stands_on caller callee x.stack then cost_of kind x else 0)) (events_on_stacks syms trace)
       (λ x in'.
       let count = one_links Step caller callee x.stack way
-      (each_at (λ (y : Seen). IsChain Step y.stack) (seen syms trace) stacks x in') in
+      (each_at (λ (y : EventOnStack). IsChain Step y.stack) (events_on_stacks syms trace) stacks x in') in
       ap (λ n. cost_of kind x * n) count ∙ bit (cost_of kind x) (stands_on caller callee x.stack)))
     where
       bit : (n : ℕ) (b : Bool) → n * number_of b ≡ (if b then n else 0)
@@ -142,7 +142,7 @@ shown true names cost kind within = refl
 shown false names cost kind within =
     get_or-take 9 cost kind 0 (let few = length-take-le 9 names in omega (arith, few, within))
 
-module _ (syms : SymbolMap) (trace : List Counted) (n : Numbering) (p : Contents)
+module _ (syms : SymbolMap) (trace : List CountedEvent) (n : Numbering) (p : Contents)
     (is : IsProfileOf syms trace n p) where
   -- a step of the graph is one of the profile's
   pub graph_to : (f g : ℕ) → Steps (graph syms trace) f g → Steps (call_arcs p) (n.func f) (n.func g)
@@ -160,7 +160,7 @@ module _ (syms : SymbolMap) (trace : List Counted) (n : Numbering) (p : Contents
   pub self_sum : (member : ℕ → Bool) (kind : ℕ) → kind < length p.events
       → self_cost member p.self_rows kind
       ≡ sum_by (λ x. if member (n.func (place_of syms x.event.done.pc).func.0) then cost_of kind x else 0)
-      (seen syms trace)
+      (events_on_stacks syms trace)
   self_sum member kind within =
       ap (λ (rows : List SelfRow). self_cost member rows kind) is.self_rows
       ∙ sum_by-map (λ (row : SelfRow). if member row.func then get_or row.cost kind 0 else 0) (self_row n)
@@ -179,7 +179,7 @@ module _ (syms : SymbolMap) (trace : List Counted) (n : Numbering) (p : Contents
       → sum_by (λ (row : CallRow). if test row.caller row.callee then get_or row.cost kind 0 else 0) p.call_rows
       ≡ sum_by
       (λ x. cost_of kind x * count_by (on_arc (λ arc. test (n.func arc.caller.0) (n.func arc.callee.0))) x.stack)
-      (seen syms trace)
+      (events_on_stacks syms trace)
   call_sum test kind within =
       ap (sum_by (λ (row : CallRow). if test row.caller row.callee then get_or row.cost kind 0 else 0)) is.call_rows
       ∙ sum_by-map (λ (row : CallRow). if test row.caller row.callee then get_or row.cost kind 0 else 0) (call_row n)
@@ -197,29 +197,29 @@ module _ (syms : SymbolMap) (trace : List Counted) (n : Numbering) (p : Contents
   -- what is closed under the numbers of the profile
   inclusive_once : (member : ℕ → Bool) (Step : ℕ → ℕ → Type 0) (kind : ℕ) → kind < length p.events → FitTops syms trace
       → ((f g : ℕ) → Steps (graph syms trace) f g → Step f g) → IsClosed Step (λ f. member (n.func f))
-      → inclusive_cost member p kind ≡ once (λ f. member (n.func f)) kind (seen syms trace)
+      → inclusive_cost member p kind ≡ once (λ f. member (n.func f)) kind (events_on_stacks syms trace)
   inclusive_once member Step kind within tops to closed =
       ap (λ m. m + leaving_cost member p.call_rows kind) (self_sum member kind within)
       ∙ ap (λ m. sum_by (λ x. if member (n.func (place_of syms x.event.done.pc).func.0) then cost_of kind x else 0)
-      (seen syms trace) + m)
+      (events_on_stacks syms trace) + m)
       (call_sum (λ f g. member f && not (member g)) kind within)
       ∙ events_once syms trace Step to (λ f. member (n.func f)) kind closed tops
 
   pub group_once : (member : ℕ → Bool) (kind : ℕ) → FitTops syms trace → kind < length p.events
       → IsGroup (Steps (call_arcs p)) member
-      → inclusive_cost member p kind ≡ once (λ f. member (n.func f)) kind (seen syms trace)
+      → inclusive_cost member p kind ≡ once (λ f. member (n.func f)) kind (events_on_stacks syms trace)
   group_once member kind tops within group =
       inclusive_once member (Steps (graph syms trace)) kind within tops (λ f g s. s)
       (group_closed (Steps (graph syms trace)) (Steps (call_arcs p)) n.func member graph_to group)
 
   pub trace_group_once : (group member : ℕ → Bool) (kind : ℕ) → FitTops syms trace → kind < length p.events
       → IsGroup (Steps (graph syms trace)) group
-      → ((f : ℕ) → member (n.func f) ≡ group f) → inclusive_cost member p kind ≡ once group kind (seen syms trace)
+      → ((f : ℕ) → member (n.func f) ≡ group f) → inclusive_cost member p kind ≡ once group kind (events_on_stacks syms trace)
   trace_group_once group member kind tops within is_group same =
       inclusive_once member (Steps (graph syms trace)) kind within tops (λ f g s. s) closed
       ∙ sum_by-same (λ x. if stands (λ f. member (n.func f)) x.stack then cost_of kind x else 0)
       (λ x. if stands group x.stack then cost_of kind x else 0)
-      (λ x. ap (λ b. if b then cost_of kind x else 0) (stands-same x.stack)) (seen syms trace)
+      (λ x. ap (λ b. if b then cost_of kind x else 0) (stands-same x.stack)) (events_on_stacks syms trace)
     where
       closed : IsClosed (Steps (graph syms trace)) (λ f. member (n.func f))
       closed f g h at_f at_h leads reach =
@@ -234,7 +234,7 @@ module _ (syms : SymbolMap) (trace : List Counted) (n : Numbering) (p : Contents
   pub pair_once : (caller callee kind : ℕ) → kind < length p.events
       → (SameGroup (Steps (call_arcs p)) caller callee → ⊥)
       → pair_cost caller callee p.call_rows kind ≡ once_pair (λ f. n.func f == caller) (λ f. n.func f == callee) kind
-      (seen syms trace)
+      (events_on_stacks syms trace)
   pair_once caller callee kind within apart =
       call_sum (λ f g. f == caller && g == callee) kind within
       ∙ pairs_once syms trace (Steps (graph syms trace)) (λ f g s. s) (λ f. n.func f == caller)

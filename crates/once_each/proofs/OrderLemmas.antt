@@ -9,21 +9,21 @@ use Rattle.event_costs.specs.declared.event.Flow.TheVariants.{Call, Jump, Swap, 
 use Rattle.event_costs.specs.declared.numbers.FuncId.{FuncId}
 use Rattle.sym_map.specs.SymbolMap.{SymbolMap, place_of}
 use Rattle.shadow_stack.specs.Kinds.{is_jump}
-use Rattle.shadow_stack.specs.Stacks.{Stack, is_of, root, top_of}
+use Rattle.shadow_stack.specs.Stacks.{Stack, is_activation_of, root, top_of}
 use Rattle.shadow_stack.specs.Changes.{Change, after, change_by, cut, down_to, next_func, settle, settle_on}
 use Rattle.shadow_stack.specs.Changes.{with_pushed}
-use Rattle.shadow_stack.specs.Traces.{Counted, own, seen_from, stack_after, stack_of}
+use Rattle.shadow_stack.specs.Traces.{CountedEvent, events_by, events_on_stacks_from, stack_after, stack_of}
 use Rattle.once_each.specs.Orderly.{FitsTop, GoOnFrom, LeadTo}
 
 -- the stack of a change
 abbrev made : Change → Stack
-made c = with_pushed c.pushed c.kept
+made c = with_pushed c.pushed c.rest
 
 down_to-top : (func : FuncId) (s rest : Stack) → down_to func s ≡ Some rest → top_of rest ≡ Some func
 down_to-top func [] rest is = absurd (cc)
-down_to-top func (a ∷ s) rest is = by (is_of func a) (is_jump a.kind) refl is (down_to-top func s rest)
+down_to-top func (a ∷ s) rest is = by (is_activation_of func a) (is_jump a.kind) refl is (down_to-top func s rest)
   where
-    by : (b c : Bool) → is_of func a ≡ b → cond b (Some (a ∷ s)) (cond c (down_to func s) None) ≡ Some rest
+    by : (b c : Bool) → is_activation_of func a ≡ b → cond b (Some (a ∷ s)) (cond c (down_to func s) None) ≡ Some rest
         → (down_to func s ≡ Some rest → top_of rest ≡ Some func) → top_of rest ≡ Some func
     by true c of is later =
         let same : a ∷ s ≡ rest = cc in
@@ -43,7 +43,7 @@ settle-top syms e s = by (down_to (next_func syms e) s) (down_to-top (next_func 
 after-top : (syms : SymbolMap) (e : Event) (s : Stack) → e.ends ≡ false
     → top_of (after syms s e) ≡ Some (next_func syms e)
 after-top syms e s goes_on =
-    ap (λ b. top_of (made (cond b (record { kept = []; pushed = None }) (change_by syms e s e.done.flow)))) goes_on
+    ap (λ b. top_of (made (cond b (record { rest = []; pushed = None }) (change_by syms e s e.done.flow)))) goes_on
     ∙ by e.done.flow
   where
     by : (flow : Flow) → top_of (made (change_by syms e s flow)) ≡ Some (next_func syms e)
@@ -62,8 +62,8 @@ stack-top : (syms : SymbolMap) (es : List Event) (pc : ℕ) → LeadTo es pc
 stack-top syms [] pc led = refl
 stack-top syms (e ∷ es) pc led = led-top syms (root syms e.done.pc) e es pc led
 
-pub fit_tops : (syms : SymbolMap) (earlier xs : List Counted) → GoOnFrom earlier xs
-    → AllByRecursion (FitsTop syms) (seen_from syms earlier xs)
+pub fit_tops : (syms : SymbolMap) (earlier xs : List CountedEvent) → GoOnFrom earlier xs
+    → AllByRecursion (FitsTop syms) (events_on_stacks_from syms earlier xs)
 fit_tops syms earlier [] go = tt
 fit_tops syms earlier (x ∷ xs) go =
-    (stack-top syms (own x.event.thread earlier) x.event.done.pc go.0, fit_tops syms (earlier ++ x ∷ []) xs go.1)
+    (stack-top syms (events_by x.event.thread earlier) x.event.done.pc go.0, fit_tops syms (earlier ++ x ∷ []) xs go.1)

@@ -8,7 +8,7 @@ use Rattle.event_costs.specs.Keys.{ArcKey, Place}
 use Rattle.sym_map.specs.SymbolMap.{SymbolMap, place_of}
 use Rattle.shadow_stack.specs.Changes.{change}
 use Rattle.shadow_stack.specs.Stacks.{Activation, Stack}
-use Rattle.shadow_stack.specs.Traces.{Counted, Seen, seen}
+use Rattle.shadow_stack.specs.Traces.{CountedEvent, EventOnStack, events_on_stacks}
 use Rattle.arc_costs.specs.Contents.{Listed}
 use Rattle.event_costs.specs.Order.{same_arc, same_place}
 use Rattle.arc_costs.specs.Rows.{ArcRow, LineRow}
@@ -22,7 +22,7 @@ use Rattle.once_each.proofs.StackLemmas.{on_arc}
 use Rattle.once_each.proofs.SumLemmas.{sum_by-each, sum_by-filter, sum_by-flat_map, sum_by-same, sum_by-swap}
 use Rattle.once_each.proofs.SumLemmas.{sum_by-times}
 
-abbrev pub cost_of : ℕ → Seen → ℕ
+abbrev pub cost_of : ℕ → EventOnStack → ℕ
 cost_of kind x = get_or x.cost kind 0
 
 -- as often as it counts
@@ -69,10 +69,10 @@ shares-sum test n s =
         sum_by-cons (λ (e : Share). if test e.arc then e.number else 0) (record { arc = arc; number = n }) []
         ∙ (omega arith)
 
-abbrev cost_shares : ℕ → List Seen → List Share
+abbrev cost_shares : ℕ → List EventOnStack → List Share
 cost_shares kind xs = flat_map (λ x. shares_of (cost_of kind x) x.stack) xs
 
-cost_shares-sum : (test : ArcKey → Bool) (kind : ℕ) (xs : List Seen)
+cost_shares-sum : (test : ArcKey → Bool) (kind : ℕ) (xs : List EventOnStack)
     → sum_where share_arc share_number test (cost_shares kind xs)
     ≡ sum_by (λ x. cost_of kind x * count_by (on_arc test) x.stack) xs
 cost_shares-sum test kind xs =
@@ -86,13 +86,13 @@ abbrev pub pushed_stack : Option Activation → Stack
 pushed_stack None = []
 pushed_stack (Some a) = a ∷ []
 
-abbrev pub pushed_by : SymbolMap → Seen → Stack
+abbrev pub pushed_by : SymbolMap → EventOnStack → Stack
 pushed_by syms x = pushed_stack (change syms x.event x.stack).pushed
 
-abbrev call_shares : SymbolMap → List Seen → List Share
+abbrev call_shares : SymbolMap → List EventOnStack → List Share
 call_shares syms xs = flat_map (λ x. shares_of 1 (pushed_by syms x)) xs
 
-call_shares-sum : (syms : SymbolMap) (test : ArcKey → Bool) (xs : List Seen)
+call_shares-sum : (syms : SymbolMap) (test : ArcKey → Bool) (xs : List EventOnStack)
     → sum_where share_arc share_number test (call_shares syms xs)
     ≡ sum_by (λ x. count_by (on_arc test) (pushed_by syms x)) xs
 call_shares-sum syms test xs =
@@ -107,13 +107,13 @@ pushes-count arc (Some a) =
     sym (sum_by-cons (λ (b : Activation). if on_arc (same_arc arc) b then 1 else 0) a [] ∙ (omega arith))
 
 -- Sums over the rows of some events, over any keys.
-module _ (syms : SymbolMap) (xs : List Seen) (rows : Listed) (are : AreRowsOf syms xs rows) where
+module _ (syms : SymbolMap) (xs : List EventOnStack) (rows : Listed) (are : AreRowsOf syms xs rows) where
   pub lines_where : (test : Place → Bool) (kind : ℕ)
       → sum_by (λ row. if test row.place then get_or row.cost kind 0 else 0) rows.lines
       ≡ sum_by (λ x. if test (place_of syms x.event.done.pc) then cost_of kind x else 0) xs
   lines_where test kind =
       exchange same_place one_place itself_place (λ (row : LineRow). row.place) (λ row. get_or row.cost kind 0)
-      (λ (x : Seen). place_of syms x.event.done.pc) (cost_of kind) test rows.lines xs (λ place. are.lines kind place)
+      (λ (x : EventOnStack). place_of syms x.event.done.pc) (cost_of kind) test rows.lines xs (λ place. are.lines kind place)
 
   pub arcs_where : (test : ArcKey → Bool) (kind : ℕ)
       → sum_by (λ row. if test row.arc then get_or row.cost kind 0 else 0) rows.arcs
@@ -138,13 +138,13 @@ module _ (syms : SymbolMap) (xs : List Seen) (rows : Listed) (are : AreRowsOf sy
       ∙ call_shares-sum syms test xs
 
 -- a sum over a segment, thread by thread
-by_threads : (f : Seen → ℕ) (segment : List Seen) (parts : List ThreadRows)
+by_threads : (f : EventOnStack → ℕ) (segment : List EventOnStack) (parts : List ThreadRows)
     → All (λ x. count_by (is_by x) parts ≡ 1) segment
     → sum_by (λ part. sum_by f (of_thread part.thread segment)) parts ≡ sum_by f segment
 by_threads f segment parts whole =
     sum_by-same (λ part. sum_by f (of_thread part.thread segment))
     (λ part. sum_by (λ x. if is_by x part then f x else 0) segment)
-    (λ part. sum_by-filter (λ (x : Seen). x.event.thread.0 == part.thread.0) f segment) parts
+    (λ part. sum_by-filter (λ (x : EventOnStack). x.event.thread.0 == part.thread.0) f segment) parts
     ∙ sum_by-swap (λ part x. if is_by x part then f x else 0) parts segment
     ∙ sum_by-each (λ x. sum_by (λ part. if is_by x part then f x else 0) parts) f segment
     (each_from (λ x. sum_by (λ part. if is_by x part then f x else 0) parts ≡ f x) segment
@@ -152,12 +152,12 @@ by_threads f segment parts whole =
     sum_by-count (is_by x) (f x) parts ∙ ap (λ n. f x * n) one ∙ (omega arith)))
 
 -- sums over rows that are sums over events for each thread's, are so for all parts
-module _ (syms : SymbolMap) (trace : List Counted) (parts : List (List ThreadRows))
+module _ (syms : SymbolMap) (trace : List CountedEvent) (parts : List (List ThreadRows))
     (are : ArePartsOfTrace syms trace parts) where
-  all_parts : {R : Type 0} (rows : Listed → List R) (g : R → ℕ) (f : Seen → ℕ)
-      → ((xs : List Seen) (listed : Listed) → AreRowsOf syms xs listed → sum_by g (rows listed) ≡ sum_by f xs)
+  all_parts : {R : Type 0} (rows : Listed → List R) (g : R → ℕ) (f : EventOnStack → ℕ)
+      → ((xs : List EventOnStack) (listed : Listed) → AreRowsOf syms xs listed → sum_by g (rows listed) ≡ sum_by f xs)
       → sum_by g (flat_map (λ segment. flat_map (λ (part : ThreadRows). rows part.rows) segment) parts)
-      ≡ sum_by f (seen syms trace)
+      ≡ sum_by f (events_on_stacks syms trace)
   all_parts rows g f same =
       sum_by-flat_map g (λ segment. flat_map (λ (part : ThreadRows). rows part.rows) segment) parts
       ∙ zip_sums (ArePartsOf syms) (sum_by f)
@@ -165,7 +165,7 @@ module _ (syms : SymbolMap) (trace : List Counted) (parts : List (List ThreadRow
       (flat_map (λ (part : ThreadRows). rows part.rows) segment)) of_segment are.segments parts are.exact
       ∙ sym (sum_by-flat_map f (λ segment. segment) are.segments) ∙ ap (sum_by f) are.whole
     where
-      of_segment : (segment : List Seen) (ps : List ThreadRows) → ArePartsOf syms segment ps
+      of_segment : (segment : List EventOnStack) (ps : List ThreadRows) → ArePartsOf syms segment ps
           → sum_by g (flat_map (λ (part : ThreadRows). rows part.rows) ps) ≡ sum_by f segment
       of_segment segment ps parts_of =
           sum_by-flat_map g (λ (part : ThreadRows). rows part.rows) ps
@@ -177,7 +177,7 @@ module _ (syms : SymbolMap) (trace : List Counted) (parts : List (List ThreadRow
 
   pub all_lines_where : (test : Place → Bool) (kind : ℕ)
       → sum_by (λ row. if test row.place then get_or row.cost kind 0 else 0) (all_lines parts)
-      ≡ sum_by (λ x. if test (place_of syms x.event.done.pc) then cost_of kind x else 0) (seen syms trace)
+      ≡ sum_by (λ x. if test (place_of syms x.event.done.pc) then cost_of kind x else 0) (events_on_stacks syms trace)
   all_lines_where test kind =
       all_parts (λ listed. listed.lines) (λ (row : LineRow). if test row.place then get_or row.cost kind 0 else 0)
       (λ x. if test (place_of syms x.event.done.pc) then cost_of kind x else 0)
@@ -185,7 +185,7 @@ module _ (syms : SymbolMap) (trace : List Counted) (parts : List (List ThreadRow
 
   pub all_arcs_where : (test : ArcKey → Bool) (kind : ℕ)
       → sum_by (λ row. if test row.arc then get_or row.cost kind 0 else 0) (all_arcs parts)
-      ≡ sum_by (λ x. cost_of kind x * count_by (on_arc test) x.stack) (seen syms trace)
+      ≡ sum_by (λ x. cost_of kind x * count_by (on_arc test) x.stack) (events_on_stacks syms trace)
   all_arcs_where test kind =
       all_parts (λ listed. listed.arcs) (λ (row : ArcRow). if test row.arc then get_or row.cost kind 0 else 0)
       (λ x. cost_of kind x * count_by (on_arc test) x.stack)
@@ -193,7 +193,7 @@ module _ (syms : SymbolMap) (trace : List Counted) (parts : List (List ThreadRow
 
   pub all_calls_where : (test : ArcKey → Bool)
       → sum_by (λ row. if test row.arc then row.calls else 0) (all_arcs parts)
-      ≡ sum_by (λ x. count_by (on_arc test) (pushed_by syms x)) (seen syms trace)
+      ≡ sum_by (λ x. count_by (on_arc test) (pushed_by syms x)) (events_on_stacks syms trace)
   all_calls_where test =
       all_parts (λ listed. listed.arcs) (λ (row : ArcRow). if test row.arc then row.calls else 0)
       (λ x. count_by (on_arc test) (pushed_by syms x)) (λ xs listed rows. calls_where syms xs listed rows test)

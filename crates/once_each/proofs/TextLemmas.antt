@@ -12,7 +12,7 @@ use Rattle.call_graph.specs.Reach.{Steps}
 use Rattle.call_graph.specs.declared.arc.CallArc.{CallArc}
 use Rattle.cycles.specs.Costs.{arc_of, call_arcs}
 use Rattle.once_each.specs.Graphs.{AreApartIn, AreOfMap, AreOwn, AreOwnIn, IsOwn, TakesPart, graph}
-use Rattle.shadow_stack.specs.Traces.{Counted}
+use Rattle.shadow_stack.specs.Traces.{CountedEvent}
 use Rattle.arc_costs.specs.Rows.{ArcRow, LineRow}
 use Rattle.cg_read.specs.Profiles.{Contents, FitsCall, FitsSelf, IsProfile, NamedCall, NamedSelf, named_call}
 use Rattle.cg_read.specs.Profiles.{named_self, same_function, unknown, unknown_function}
@@ -116,7 +116,7 @@ module _ (p : Contents) (profile : IsProfile p) (names : Naming) where
       ∙ ap (λ c. call_at (n.func a.arc.caller.0) (n.file a.arc.file.0) a.arc.line (n.func a.arc.callee.0) a.calls c)
       (ap (λ (x : NamedCall). x.cost) is)
 
-pub read_is : (syms : SymbolMap) (trace : List Counted) (names : Naming) (p : Contents) → IsReadOf syms trace names p
+pub read_is : (syms : SymbolMap) (trace : List CountedEvent) (names : Naming) (p : Contents) → IsReadOf syms trace names p
     → IsProfileOf syms trace (numbers_in p names) p
 read_is syms trace names p read = record {
   parts = read.parts;
@@ -137,7 +137,7 @@ read_is syms trace names p read = record {
 }
 
 -- Functions that take part and have texts of their own have numbers of their own.
-module _ (syms : SymbolMap) (trace : List Counted) (names : Naming) (p : Contents)
+module _ (syms : SymbolMap) (trace : List CountedEvent) (names : Naming) (p : Contents)
     (read : IsReadOf syms trace names p) where
   is_profile : IsProfileOf syms trace (numbers_in p names) p
   is_profile = read_is syms trace names p read

@@ -5,7 +5,7 @@ use Rattle.event_costs.specs.Keys.{ArcKey}
 use Rattle.sym_map.specs.SymbolMap.{SymbolMap, IsFunc, place_of}
 use Rattle.shadow_stack.specs.Changes.{change}
 use Rattle.shadow_stack.specs.Stacks.{Activation}
-use Rattle.shadow_stack.specs.Traces.{Counted, Seen, seen}
+use Rattle.shadow_stack.specs.Traces.{CountedEvent, EventOnStack, events_on_stacks}
 use Rattle.call_graph.specs.Reach.{Steps}
 use Rattle.call_graph.specs.declared.arc.CallArc.{CallArc}
 
@@ -18,12 +18,12 @@ abbrev pub arcs_of : Option Activation → List CallArc
 arcs_of None = []
 arcs_of (Some a) = option_map_or (λ arc. between arc ∷ []) a.arc []
 
-abbrev pub arcs_pushed : SymbolMap → Seen → List CallArc
+abbrev pub arcs_pushed : SymbolMap → EventOnStack → List CallArc
 arcs_pushed syms x = arcs_of (change syms x.event x.stack).pushed
 
 -- the arcs of all frames that the events of a trace push
-abbrev pub graph : SymbolMap → List Counted → List CallArc
-graph syms trace = flat_map (arcs_pushed syms) (seen syms trace)
+abbrev pub graph : SymbolMap → List CountedEvent → List CallArc
+graph syms trace = flat_map (arcs_pushed syms) (events_on_stacks syms trace)
 
 -- a function that calls or is called
 abbrev pub TakesPart : List CallArc → ℕ → Type 0
@@ -46,7 +46,7 @@ abbrev pub AreOwnIn : {A : Type 0} → SymbolMap → List CallArc → (ℕ → A
 AreOwnIn syms arcs number = (f : ℕ) → TakesPart arcs f → IsOwn syms number f
 
 -- The functions of each event's pc, and of the pc that it leads to, are of the map.
-abbrev pub AreOfMap : SymbolMap → List Counted → Type 0
+abbrev pub AreOfMap : SymbolMap → List CountedEvent → Type 0
 AreOfMap syms trace =
     All (λ x. IsFunc syms (place_of syms x.event.done.pc).func × IsFunc syms (place_of syms x.event.done.next).func)
     trace

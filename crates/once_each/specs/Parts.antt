@@ -3,7 +3,7 @@ use Rattle.std.specs.Prelude.{◌≡◌, ◌==◌, Bool, List, All, flat_map, co
 use Rattle.std.specs.List.{AllZip}
 use Rattle.event_costs.specs.declared.numbers.ThreadNo.{ThreadNo}
 use Rattle.sym_map.specs.SymbolMap.{SymbolMap}
-use Rattle.shadow_stack.specs.Traces.{Counted, Seen, seen}
+use Rattle.shadow_stack.specs.Traces.{CountedEvent, EventOnStack, events_on_stacks}
 use Rattle.arc_costs.specs.Contents.{Listed}
 use Rattle.arc_costs.specs.Rows.{ArcRow, LineRow}
 use Rattle.call_graph.specs.declared.arc.CallArc.{CallArc}
@@ -16,18 +16,18 @@ pub record ThreadRows : Type 0 where
   pub thread : ThreadNo
   pub rows : Listed
 
-abbrev pub is_by : Seen → ThreadRows → Bool
+abbrev pub is_by : EventOnStack → ThreadRows → Bool
 is_by x part = x.event.thread.0 == part.thread.0
 
 -- the parts of a segment: each has the rows of its thread, and each event's thread has one
-pub record ArePartsOf (syms : SymbolMap) (segment : List Seen) (parts : List ThreadRows) : Type 0 where
+pub record ArePartsOf (syms : SymbolMap) (segment : List EventOnStack) (parts : List ThreadRows) : Type 0 where
   pub exact : All (λ part. AreRowsOf syms (of_thread part.thread segment) part.rows) parts
   pub whole : All (λ x. count_by (is_by x) parts ≡ 1) segment
 
 -- The parts of a trace. Its events stand in segments, in their order, wherever it was cut.
-pub record ArePartsOfTrace (syms : SymbolMap) (trace : List Counted) (parts : List (List ThreadRows)) : Type 0 where
-  pub segments : List (List Seen)
-  pub whole : flat_map (λ segment. segment) segments ≡ seen syms trace
+pub record ArePartsOfTrace (syms : SymbolMap) (trace : List CountedEvent) (parts : List (List ThreadRows)) : Type 0 where
+  pub segments : List (List EventOnStack)
+  pub whole : flat_map (λ segment. segment) segments ≡ events_on_stacks syms trace
   pub exact : AllZip (ArePartsOf syms) segments parts
 
 -- the rows of all threads in all segments

@@ -2,7 +2,7 @@
 use Rattle.std.specs.Prelude.{◌≡◌, ℕ, Bool, List, map}
 use Rattle.event_costs.specs.Costs.{event_names, events_shown}
 use Rattle.sym_map.specs.SymbolMap.{SymbolMap}
-use Rattle.shadow_stack.specs.Traces.{Counted}
+use Rattle.shadow_stack.specs.Traces.{CountedEvent}
 use Rattle.arc_costs.specs.Rows.{ArcRow, LineRow}
 use Rattle.cg_read.specs.Profiles.{Contents}
 use Rattle.cg_read.specs.declared.rows.CallRow.{CallRow}
@@ -34,7 +34,7 @@ call_row n row = record {
 }
 
 -- a profile whose rows are those of all parts of a trace, under these numbers
-pub record IsProfileOf (syms : SymbolMap) (trace : List Counted) (n : Numbering) (p : Contents) : Type 0 where
+pub record IsProfileOf (syms : SymbolMap) (trace : List CountedEvent) (n : Numbering) (p : Contents) : Type 0 where
   pub parts : List (List ThreadRows)
   pub exact : ArePartsOfTrace syms trace parts
   pub events : p.events ≡ events_shown n.branches event_names

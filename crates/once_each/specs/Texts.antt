@@ -4,7 +4,7 @@ use Rattle.std.specs.List.{position_or_len}
 use Rattle.std.specs.Str.{bytes_eq}
 use Rattle.event_costs.specs.Costs.{event_names, events_shown}
 use Rattle.sym_map.specs.SymbolMap.{SymbolMap}
-use Rattle.shadow_stack.specs.Traces.{Counted}
+use Rattle.shadow_stack.specs.Traces.{CountedEvent}
 use Rattle.arc_costs.specs.Rows.{ArcRow, LineRow}
 use Rattle.cg_read.specs.Profiles.{Contents, IsProfile, NamedCall, NamedSelf, named_call_rows, named_self_rows}
 use Rattle.cg_read.specs.Profiles.{same_function}
@@ -37,7 +37,7 @@ named_arc names row = record {
 }
 
 -- a profile whose rows, with their texts, are those of all parts of a trace
-pub record IsReadOf (syms : SymbolMap) (trace : List Counted) (names : Naming) (p : Contents) : Type 0 where
+pub record IsReadOf (syms : SymbolMap) (trace : List CountedEvent) (names : Naming) (p : Contents) : Type 0 where
   pub profile : IsProfile p
   pub parts : List (List ThreadRows)
   pub exact : ArePartsOfTrace syms trace parts

@@ -13,12 +13,12 @@ use Rattle.outside.specs.inner.Front.{HasRead, IsFront, IsPiece}
 use Rattle.outside.proofs.TellLemmas.{tell_as, tell_both, tell_here, tell_then}
 
 pub stays_here : (x : Disk) → Stays x x
-stays_here x = record { files = refl; sized = refl; faults = omega arith }
+stays_here x = record { files = refl; tells_lengths = refl; faults = omega arith }
 
 pub stays_then : (x y z : Disk) → Stays x y → Stays y z → Stays x z
 stays_then x y z p q = record {
   files = q.files ∙ p.files;
-  sized = q.sized ∙ p.sized;
+  tells_lengths = q.tells_lengths ∙ p.tells_lengths;
   faults = omega (arith, p.faults, q.faults);
 }
 
@@ -31,10 +31,10 @@ refused_since error x y z le (inl memory) = inl memory
 refused_since error x y z le (inr rose) = inr (rose_since x.faults y.faults z.faults le rose)
 
 pub nothing_read : (a : Option Disk) (read : List ℕ) (opened : OpenFile) → read ≡ []
-    → Tell a a (HasRead opened.left read opened)
+    → Tell a a (HasRead opened.rest read opened)
 nothing_read a read opened none =
-    tell_here (HasRead opened.left read opened) a
-    (λ x. record { stays = stays_here x; parts = sym (ap (λ r. r ++ opened.left) none) })
+    tell_here (HasRead opened.rest read opened) a
+    (λ x. record { stays = stays_here x; parts = sym (ap (λ r. r ++ opened.rest) none) })
 
 pub read_stays : (a b : Option Disk) (left read : List ℕ) (opened : OpenFile) → Tell a b (HasRead left read opened)
     → Tell a b Stays
@@ -63,7 +63,7 @@ pub front_full : (a b : Option Disk) (left : List ℕ) (read : Vec ℕ Global) (
 front_full a b left read opened limit full =
     tell_as (HasRead left read.items opened) (IsFront left limit (Ok read)) a b
     (λ x y p. sym (ap (take (limit + 1)) p.parts
-    ∙ take-append-le (limit + 1) read.items opened.left (omega (arith, full))
+    ∙ take-append-le (limit + 1) read.items opened.rest (omega (arith, full))
     ∙ take_all (limit + 1) read.items (omega (arith, full))))
 
 -- all that there is
@@ -109,8 +109,8 @@ pub piece_goes_on : (a b : Option Disk) (read more room : List ℕ) (old new : O
 piece_goes_on a b read more room old new count is =
     tell_as (Reads old new room (Ok count)) (IsPiece old new read more (Ok count)) a b
     (λ x y p. (
-      ap (λ l. read ++ l) p.0 ∙ sym (append_assoc read (take count room) new.left)
-          ∙ ap (λ m. m ++ new.left) (sym is),
+      ap (λ l. read ++ l) p.0 ∙ sym (append_assoc read (take count room) new.rest)
+          ∙ ap (λ m. m ++ new.rest) (sym is),
       p.1,
     ))
 

@@ -2,5 +2,5 @@ pub mod FrontLemmas
 pub mod PutLemmas
 pub mod ShelfLemmas
 pub mod TellLemmas
-pub mod ToldLemmas
+pub mod JournalLemmas
 pub mod WriteLemmas

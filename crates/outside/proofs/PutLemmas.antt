@@ -17,7 +17,7 @@ use Rattle.outside.proofs.TellLemmas.{tell_both, tell_then}
 use Rattle.outside.proofs.WriteLemmas.{front_and_more}
 
 goes_then : (x y z : Disk) → GoesOn x y → GoesOn y z → GoesOn x z
-goes_then x y z p q = record { sized = q.sized ∙ p.sized; faults = omega (arith, p.faults, q.faults) }
+goes_then x y z p q = record { tells_lengths = q.tells_lengths ∙ p.tells_lengths; faults = omega (arith, p.faults, q.faults) }
 
 cond_twice : {A : Type 0} (b : Bool) (u v w : A) → cond b u (cond b v w) ≡ cond b u w
 cond_twice true u v w = refl

@@ -5,7 +5,7 @@ use mathlib.Core.Logic.{inl, inr}
 use base.Stored.{coded_unit}
 use Rattle.byte_text.specs.Memory.{memory}
 use Rattle.outside.specs.Load.{Load}
-use Rattle.outside.specs.Told.{Call, Loaded, Put}
+use Rattle.outside.specs.Journal.{Call, Loaded, Put}
 use Rattle.outside.specs.declared.folder.LoadError.{LoadError}
 use Rattle.outside.specs.declared.folder.LoadError.TheVariants as load
 use Rattle.outside.specs.declared.folder.PutError.{PutError}

@@ -1,7 +1,7 @@
 -- What a folder over calls on files answers, where the calls tell of the files.
 use Rattle.std.specs.Prelude.{◌≡◌, ℕ, ◌+◌, ◌<◌, ◌≤◌, ◌⊎◌, List, Some, None, IsSome, Result, Ok, Err, Vec, length}
 use Rattle.std.specs.declared.alloc.Global.{Global}
-use Rattle.outside.specs.Calls.{Disk, said}
+use Rattle.outside.specs.Calls.{Disk, stated_length}
 use Rattle.outside.specs.Files.{Rose, SameBut, file, with_file}
 use Rattle.outside.specs.declared.folder.LoadError.{LoadError}
 use Rattle.outside.specs.declared.folder.LoadError.TheVariants as load
@@ -26,7 +26,7 @@ abbrev pub LoadsFrom : List ℕ → ℕ → Result (Vec ℕ Global) LoadError �
 LoadsFrom name limit (Ok bytes) before now = (file before.files name ≡ Some bytes.items) × (length bytes.items ≤ limit)
 LoadsFrom name limit (Err load.Failed) before now = (file before.files name ≡ None) ⊎ Rose before.faults now.faults
 LoadsFrom name limit (Err (load.TooLong len)) before now =
-    (bytes : List ℕ) × (file before.files name ≡ Some bytes) × IsTooLong limit (said before bytes) bytes len
+    (bytes : List ℕ) × (file before.files name ≡ Some bytes) × IsTooLong limit (stated_length before bytes) bytes len
 LoadsFrom name limit (Err (load.OutOfMemory _)) before now = IsSome (file before.files name)
 
 -- The name has these bytes, all of them and no others; or it may hold anything, after a call that failed or want of

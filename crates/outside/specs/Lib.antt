@@ -8,7 +8,7 @@ pub mod Outside
 pub mod Plan
 pub mod Put
 pub mod Shelf
-pub mod Told
+pub mod Journal
 pub mod Traced
 pub mod Write
 pub mod inner

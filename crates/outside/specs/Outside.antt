@@ -1,7 +1,7 @@
 -- The outside of a command: a folder and two sinks; and what the command has put out to them.
 use Rattle.std.specs.Prelude.{◌≡◌, ℕ, List, [], ◌∷◌, ◌++◌, map, Option, Some, None, option_map, Ok}
 use Rattle.outside.specs.Files.{Files, SameBut, with_file}
-use Rattle.outside.specs.Told.{Call, Put, TellsMore, Wrote}
+use Rattle.outside.specs.Journal.{Call, Put, TellsMore, Wrote}
 use Rattle.outside.specs.Write.{taken_more}
 use Rattle.outside.specs.declared.folder.Folder as folder
 use Rattle.outside.specs.declared.sink.Sink as sink

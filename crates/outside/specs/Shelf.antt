@@ -5,17 +5,17 @@ use Rattle.std.specs.FinMap as finite
 use Rattle.std.specs.declared.alloc.Global.{Global}
 use Rattle.outside.specs.Files.{Files, files_code}
 use Rattle.outside.specs.Plan.{Plan}
-use Rattle.outside.specs.Told.{Call, Wrote}
+use Rattle.outside.specs.Journal.{Call, Wrote}
 use Rattle.outside.specs.Traced.{Traced}
 use Rattle.outside.specs.Codes.{calls_code}
 
 -- a name and its bytes
-abbrev pub named : String Global × Vec ℕ Global → List ℕ × List ℕ
-named entry = (string_bytes entry.0, entry.1.items)
+abbrev pub file_of_entry : String Global × Vec ℕ Global → List ℕ × List ℕ
+file_of_entry entry = (string_bytes entry.0, entry.1.items)
 
 -- the files of a list of names with their bytes; the first of a name counts
 abbrev pub files_of : List (String Global × Vec ℕ Global) → Files
-files_of entries = finite.from_entries (map named entries)
+files_of entries = finite.from_entries (map file_of_entry entries)
 
 -- a folder whose calls may be told to fail, and the calls that were made of it, as long as they are kept
 pub record FolderState : Type 0 where

@@ -1,4 +1,4 @@
 -- What only the inner contracts cite.
 pub mod Front
-pub mod Kept
+pub mod Entries
 pub mod Pieces

@@ -16,7 +16,7 @@ pub trait FileCalls {
 
     ghost disk: { Self → Option Disk };
 
-    ghost seen: { Self.File → OpenFile };
+    ghost open_file: { Self.File → OpenFile };
 
     /// Whether a regular file has this name, which is no device, no pipe and no folder.
     fn is_regular(&mut self, name: &str) -> bool
@@ -25,12 +25,12 @@ pub trait FileCalls {
 
     /// Opens the file of this name to be read.
     fn open(&mut self, name: &str) -> io::Result<Self::File>
-        ensures opens { Tell (disk self.old) (disk self.new) (Opens seen name.now result) }
+        ensures opens { Tell (disk self.old) (disk self.new) (Opens open_file name.now result) }
         ensures stays { Tell (disk self.old) (disk self.new) Stays };
 
     /// The length of a file that has just been opened, as the system says it.
     fn length(&mut self, file: &Self::File) -> io::Result<u64>
-        ensures says { Tell (disk self.old) (disk self.new) (Says (seen file.now) result) }
+        ensures says { Tell (disk self.old) (disk self.new) (Says (open_file file.now) result) }
         ensures stays { Tell (disk self.old) (disk self.new) Stays };
 
     /// Reads the next bytes of the file into the front of `room`, and answers how many: none only at the file's end.
@@ -38,19 +38,19 @@ pub trait FileCalls {
         requires { 0 < length room.old }
         ensures within { IfOk result (λ count. count ≤ length room.new) }
         ensures same_room { length room.new ≡ length room.old }
-        ensures reads { Tell (disk self.old) (disk self.new) (Reads (seen file.old) (seen file.new) room.new result) }
+        ensures reads { Tell (disk self.old) (disk self.new) (Reads (open_file file.old) (open_file file.new) room.new result) }
         ensures stays { Tell (disk self.old) (disk self.new) Stays };
 
     /// Opens the file of this name to be written. It is empty then.
     fn create(&mut self, name: &str) -> io::Result<Self::File>
-        ensures creates { Tell (disk self.old) (disk self.new) (Creates seen name.now result) }
+        ensures creates { Tell (disk self.old) (disk self.new) (Creates open_file name.now result) }
         ensures goes_on { Tell (disk self.old) (disk self.new) GoesOn };
 
     /// Writes a front of the bytes to the end of the file, and answers its length.
     fn write(&mut self, file: &mut Self::File, bytes: &[u8]) -> io::Result<usize>
         requires { 0 < length bytes.now }
         ensures within { IfOk result (λ count. count ≤ length bytes.now) }
-        ensures writes { Tell (disk self.old) (disk self.new) (Writes (seen file.old) (seen file.new) bytes.now result) }
+        ensures writes { Tell (disk self.old) (disk self.new) (Writes (open_file file.old) (open_file file.new) bytes.now result) }
         ensures goes_on { Tell (disk self.old) (disk self.new) GoesOn };
 }
 
@@ -72,7 +72,7 @@ impl<R: Files> FileCalls for SystemCalls<'_, R> {
 
     ghost disk = { λ _. None };
 
-    ghost seen = { λ _. record { left = []; name = []; written = [] } };
+    ghost open_file = { λ _. record { rest = []; name = []; written = [] } };
 
     fn is_regular(&mut self, name: &str) -> bool {
         match fs::metadata(self.rt, name) {

@@ -7,12 +7,12 @@ ghost use Rattle.outside.specs.Load.{LoadAnswers, load_failed, load_of};
 ghost use Rattle.outside.specs.inner.Pieces.{IsReadWithin};
 ghost use Rattle.outside.specs.Plan.{count_after};
 ghost use Rattle.outside.specs.Put.{PutAnswers, put_failed};
-ghost use Rattle.outside.specs.Told.{Loaded, Put, TellsMore};
+ghost use Rattle.outside.specs.Journal.{Loaded, Put, TellsMore};
 ghost use Rattle.outside.specs.inner.Front.{IsFront, IsFrontOf, IsLoadError, IsPiece, IsPutError, IsWritten};
 
 use crate::calls::{FileCalls, SystemCalls};
 use crate::folder::{Folder, LoadError, PutError};
-use crate::plan::counted;
+use crate::plan::count_after;
 use byte_text::OutOfMemory;
 use std::alloc::Global;
 use std::io;
@@ -41,7 +41,7 @@ impl<C> Model for FileFolder<C> {
 
 impl<C> FileFolder<C> {
     /// A folder over these calls, with no fault yet.
-    pub fn over(alloc: Global, calls: C) -> FileFolder<C>
+    pub fn from_calls(alloc: Global, calls: C) -> FileFolder<C>
         ensures { result ≡ record { calls = calls; loads = 0; puts = 0 } }
     {
         FileFolder {
@@ -62,7 +62,7 @@ impl<'a, R: Files + AllocGlobal> FileFolder<SystemCalls<'a, R>> {
         ensures no_load_fault { result.loads ≡ 0 }
         ensures no_put_fault { result.puts ≡ 0 }
     {
-        FileFolder::over(rt.alloc(), SystemCalls::new(rt))
+        FileFolder::from_calls(rt.alloc(), SystemCalls::new(rt))
     }
 }
 
@@ -91,7 +91,7 @@ impl<C: FileCalls> Folder for FileFolder<C> {
     {
         let answer = read_file(&mut self.calls, self.alloc, name, limit);
         let failed = matches!(answer, Err(LoadError::Failed));
-        self.load_faults = counted(failed, self.load_faults);
+        self.load_faults = count_after(failed, self.load_faults);
         answer
     }
 
@@ -109,7 +109,7 @@ impl<C: FileCalls> Folder for FileFolder<C> {
         ensures stays { Tell (C.disk self.old.calls) (C.disk self.new.calls) Stays }
     {
         if !self.calls.is_regular(name) {
-            self.load_faults = counted(true, self.load_faults);
+            self.load_faults = count_after(true, self.load_faults);
             return Err(LoadError::Failed);
         }
         self.load(name, limit)
@@ -131,7 +131,7 @@ impl<C: FileCalls> Folder for FileFolder<C> {
     {
         let answer = write_file(&mut self.calls, name, bytes);
         let failed = matches!(answer, Err(PutError::Failed));
-        self.put_faults = counted(failed, self.put_faults);
+        self.put_faults = count_after(failed, self.put_faults);
         answer
     }
 }
@@ -181,7 +181,7 @@ fn read_front<C: FileCalls>(
     file: &mut C::File,
     limit: u64,
 ) -> io::Result<Vec<u8>>
-    ensures front { Tell (C.disk calls.old) (C.disk calls.new) (IsFront (C.seen file.old).left limit result) }
+    ensures front { Tell (C.disk calls.old) (C.disk calls.new) (IsFront (C.open_file file.old).rest limit result) }
     ensures stays { Tell (C.disk calls.old) (C.disk calls.new) Stays }
 {
     let mut bytes = Vec::new(alloc);
@@ -209,7 +209,7 @@ fn read_piece<C: FileCalls>(
     ensures within { IfOk result (λ count. count ≤ length room.old) }
     ensures longer { IfOk result (λ count. length bytes.new.items ≡ length bytes.old.items + count) }
     ensures piece { Tell (C.disk calls.old) (C.disk calls.new)
-        (IsPiece (C.seen file.old) (C.seen file.new) bytes.old.items bytes.new.items result) }
+        (IsPiece (C.open_file file.old) (C.open_file file.new) bytes.old.items bytes.new.items result) }
     ensures stays { Tell (C.disk calls.old) (C.disk calls.new) Stays }
 {
     let count = calls.read(file, room)?;

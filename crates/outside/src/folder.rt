@@ -4,7 +4,7 @@ ghost use Rattle.std.specs.Prelude.{◌≡◌, ◌≤◌, ◌∷◌, [], ℕ, Li
 ghost use Rattle.outside.specs.Files.{Files};
 ghost use Rattle.outside.specs.Load.{LoadAnswers, load_failed, load_of};
 ghost use Rattle.outside.specs.Put.{PutAnswers, put_failed};
-ghost use Rattle.outside.specs.Told.{Call, Loaded, Put, TellsMore};
+ghost use Rattle.outside.specs.Journal.{Call, Loaded, Put, TellsMore};
 
 use byte_text::OutOfMemory;
 use thiserror::Error;

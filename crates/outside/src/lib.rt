@@ -1,11 +1,11 @@
 //! The outside of a command: the folder that it reads from and writes to, and the sinks that its output goes to.
 #![tactic(auto)]
 
+mod call_journal;
 mod calls;
-mod calls_kept;
 mod file_folder;
 mod folder;
-mod kept;
+mod journal;
 mod memory_folder;
 mod memory_sink;
 mod plan;
@@ -15,8 +15,8 @@ mod stream;
 mod traced_folder;
 mod traced_sink;
 
+pub use call_journal::{FolderCall, SinkWrite};
 pub use calls::{FileCalls, SystemCalls};
-pub use calls_kept::{FolderCall, SinkWrite};
 pub use file_folder::{DirFolder, FileFolder};
 pub use folder::{FILE_LIMIT, Folder, LoadError, PutError, TEXT_LIMIT};
 pub use memory_folder::{MemFolder, SureFolder};

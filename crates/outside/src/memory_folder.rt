@@ -7,14 +7,14 @@ ghost use Rattle.outside.specs.Files.{Files, file};
 ghost use Rattle.outside.specs.Load.{LoadAnswers, load_failed, load_of};
 ghost use Rattle.outside.specs.Put.{PutAnswers, put_failed};
 ghost use Rattle.outside.specs.Plan.{next_fails, after_call, count_after};
-ghost use Rattle.outside.specs.Shelf.{files_of, named, HaveNamesApart};
-ghost use Rattle.outside.specs.Told.{Loaded, Put, TellsMore};
-ghost use Rattle.outside.specs.Traced.{calls_told};
+ghost use Rattle.outside.specs.Shelf.{files_of, file_of_entry, HaveNamesApart};
+ghost use Rattle.outside.specs.Journal.{Loaded, Put, TellsMore};
+ghost use Rattle.outside.specs.Traced.{calls_in};
 
-use crate::calls_kept::FolderCall;
+use crate::call_journal::FolderCall;
 use crate::folder::{Folder, LoadError, PutError};
-use crate::kept::Kept;
-use crate::plan::{Plan, counted};
+use crate::journal::Journal;
+use crate::plan::{Plan, count_after};
 use crate::shelf::Shelf;
 use std::alloc::Global;
 use std::marker::Model;
@@ -24,7 +24,7 @@ use std::marker::Model;
 pub struct MemFolder {
     alloc: Global,
     shelf: Shelf,
-    calls: Kept<FolderCall>,
+    calls: Journal<FolderCall>,
     plan: Plan,
     load_faults: u64,
     put_faults: u64,
@@ -32,7 +32,7 @@ pub struct MemFolder {
 
 impl Model for MemFolder {
     ghost use Rattle.outside.specs.Shelf.{FolderState, folder_state_code};
-    ghost use Rattle.outside.specs.Traced.{calls_told};
+    ghost use Rattle.outside.specs.Traced.{calls_in};
 
     ghost Value = { FolderState };
 
@@ -40,7 +40,7 @@ impl Model for MemFolder {
 
     ghost view = { λ f. record {
       files = f.shelf;
-      calls = calls_told f.calls;
+      calls = calls_in f.calls;
       plan = f.plan;
       load_faults = f.load_faults;
       put_faults = f.put_faults;
@@ -62,7 +62,7 @@ impl MemFolder {
         MemFolder {
             alloc,
             shelf: Shelf::new(files),
-            calls: Kept::new(alloc),
+            calls: Journal::new(alloc),
             plan: Plan::new(fails),
             load_faults: 0,
             put_faults: 0,
@@ -78,7 +78,7 @@ impl MemFolder {
 
     /// The calls that were made, in their order, None once memory for one of them was refused.
     pub fn calls(&self) -> Option<&[FolderCall]>
-        ensures { calls_told (option_copied result) ≡ self.now.calls }
+        ensures { calls_in (option_copied result) ≡ self.now.calls }
     {
         self.calls.entries()
     }
@@ -108,7 +108,7 @@ impl Folder for MemFolder {
         ensures rises { self.new.load_faults ≡ count_after (next_fails self.old.plan) self.old.load_faults }
     {
         let fails = self.plan.call();
-        self.load_faults = counted(fails, self.load_faults);
+        self.load_faults = count_after(fails, self.load_faults);
         if fails {
             self.calls
                 .load(self.alloc, name, limit, &Err(LoadError::Failed));
@@ -134,7 +134,7 @@ impl Folder for MemFolder {
         ensures rises { self.new.put_faults ≡ count_after (next_fails self.old.plan) self.old.put_faults }
     {
         let fails = self.plan.call();
-        self.put_faults = counted(fails, self.put_faults);
+        self.put_faults = count_after(fails, self.put_faults);
         if fails {
             self.calls
                 .put(self.alloc, name, bytes, Err(PutError::Failed));
@@ -151,19 +151,19 @@ impl Folder for MemFolder {
 pub struct SureFolder {
     alloc: Global,
     shelf: Shelf,
-    calls: Kept<FolderCall>,
+    calls: Journal<FolderCall>,
 }
 
 impl Model for SureFolder {
     ghost use Rattle.outside.specs.Files.{Files};
     ghost use Rattle.outside.specs.Shelf.{traced_files_code};
-    ghost use Rattle.outside.specs.Traced.{Traced, calls_told};
+    ghost use Rattle.outside.specs.Traced.{Traced, calls_in};
 
     ghost Value = { Traced Files };
 
     ghost coded = { traced_files_code };
 
-    ghost view = { λ f. record { folder = f.shelf; calls = calls_told f.calls } };
+    ghost view = { λ f. record { folder = f.shelf; calls = calls_in f.calls } };
 }
 
 impl SureFolder {
@@ -175,7 +175,7 @@ impl SureFolder {
         SureFolder {
             alloc,
             shelf: Shelf::new(files),
-            calls: Kept::new(alloc),
+            calls: Journal::new(alloc),
         }
     }
 
@@ -188,7 +188,7 @@ impl SureFolder {
 
     /// The calls that were made, in their order, None once memory for one of them was refused.
     pub fn calls(&self) -> Option<&[FolderCall]>
-        ensures { calls_told (option_copied result) ≡ self.now.calls }
+        ensures { calls_in (option_copied result) ≡ self.now.calls }
     {
         self.calls.entries()
     }

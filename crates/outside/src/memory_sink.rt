@@ -6,12 +6,12 @@ ghost use Rattle.outside.specs.Write.{WriteAnswers, write_failed};
 ghost use Rattle.outside.specs.inner.Pieces.{TakesWhole};
 ghost use Rattle.outside.specs.Plan.{next_fails, after_call, count_after};
 ghost use Rattle.outside.specs.Shelf.{empty_sink};
-ghost use Rattle.outside.specs.Told.{TellsMore, wrote};
-ghost use Rattle.outside.specs.Traced.{writes_told};
+ghost use Rattle.outside.specs.Journal.{TellsMore, wrote};
+ghost use Rattle.outside.specs.Traced.{writes_in};
 
-use crate::calls_kept::SinkWrite;
-use crate::kept::Kept;
-use crate::plan::{Plan, counted};
+use crate::call_journal::SinkWrite;
+use crate::journal::Journal;
+use crate::plan::{Plan, count_after};
 use crate::sink::{Sink, WriteError};
 use byte_text::OutOfMemory;
 use std::alloc::Global;
@@ -23,7 +23,7 @@ use std::marker::Model;
 pub struct MemSink {
     alloc: Global,
     bytes: Vec<u8>,
-    writes: Kept<SinkWrite>,
+    writes: Journal<SinkWrite>,
     /// How many bytes a call takes at most.
     most: usize,
     plan: Plan,
@@ -33,13 +33,13 @@ pub struct MemSink {
 impl Model for MemSink {
     ghost use Rattle.std.specs.Prelude.{◌<◌};
     ghost use Rattle.outside.specs.Shelf.{SinkState};
-    ghost use Rattle.outside.specs.Traced.{writes_told};
+    ghost use Rattle.outside.specs.Traced.{writes_in};
 
     ghost Value = { SinkState };
 
     ghost view = { λ s. record {
       taken = s.bytes.items;
-      writes = writes_told s.writes;
+      writes = writes_in s.writes;
       most = s.most;
       plan = s.plan;
       faults = s.faults;
@@ -56,7 +56,7 @@ impl MemSink {
         MemSink {
             alloc,
             bytes: Vec::new(alloc),
-            writes: Kept::new(alloc),
+            writes: Journal::new(alloc),
             most: usize::MAX,
             plan: Plan::new(fails),
             faults: 0,
@@ -71,7 +71,7 @@ impl MemSink {
         MemSink {
             alloc,
             bytes: Vec::new(alloc),
-            writes: Kept::new(alloc),
+            writes: Journal::new(alloc),
             most,
             plan: Plan::new(Vec::new(alloc)),
             faults: 0,
@@ -87,7 +87,7 @@ impl MemSink {
 
     /// The writes that were made, in their order, None once memory for one of them was refused.
     pub fn writes(&self) -> Option<&[SinkWrite]>
-        ensures { writes_told (option_copied result) ≡ self.now.writes }
+        ensures { writes_in (option_copied result) ≡ self.now.writes }
     {
         self.writes.entries()
     }
@@ -123,7 +123,7 @@ impl Sink for MemSink {
             self.writes.write(self.alloc, bytes, Ok(0));
             return Ok(0);
         }
-        self.faults = counted(fails, self.faults);
+        self.faults = count_after(fails, self.faults);
         if fails {
             self.writes
                 .write(self.alloc, bytes, Err(WriteError::Failed));
@@ -141,16 +141,16 @@ impl Sink for MemSink {
 pub struct SureSink {
     alloc: Global,
     bytes: Vec<u8>,
-    writes: Kept<SinkWrite>,
+    writes: Journal<SinkWrite>,
 }
 
 impl Model for SureSink {
     ghost use Rattle.std.specs.Prelude.{List, ℕ};
-    ghost use Rattle.outside.specs.Traced.{TracedSink, writes_told};
+    ghost use Rattle.outside.specs.Traced.{TracedSink, writes_in};
 
     ghost Value = { TracedSink (List ℕ) };
 
-    ghost view = { λ s. record { sink = s.bytes.items; writes = writes_told s.writes } };
+    ghost view = { λ s. record { sink = s.bytes.items; writes = writes_in s.writes } };
 }
 
 impl SureSink {
@@ -161,7 +161,7 @@ impl SureSink {
         SureSink {
             alloc,
             bytes: Vec::new(alloc),
-            writes: Kept::new(alloc),
+            writes: Journal::new(alloc),
         }
     }
 
@@ -174,7 +174,7 @@ impl SureSink {
 
     /// The writes that were made, in their order, None once memory for one of them was refused.
     pub fn writes(&self) -> Option<&[SinkWrite]>
-        ensures { writes_told (option_copied result) ≡ self.now.writes }
+        ensures { writes_in (option_copied result) ≡ self.now.writes }
     {
         self.writes.entries()
     }

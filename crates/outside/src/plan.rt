@@ -39,7 +39,7 @@ impl Plan {
 }
 
 /// The count of faults after a call that fails or not. A count at 2^64 - 1 stays there.
-pub fn counted(fails: bool, count: u64) -> u64
+pub fn count_after(fails: bool, count: u64) -> u64
     ensures { result ≡ count_after fails count }
 {
     if fails {

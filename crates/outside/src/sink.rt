@@ -1,7 +1,7 @@
 //! The sinks that output goes to.
 
 ghost use Rattle.std.specs.Prelude.{◌≡◌, ◌≤◌, ◌∷◌, [], ℕ, List, Option, false};
-ghost use Rattle.outside.specs.Told.{TellsMore, TellsWrites, Wrote, wrote};
+ghost use Rattle.outside.specs.Journal.{TellsMore, TellsWrites, Wrote, wrote};
 ghost use Rattle.outside.specs.Write.{WriteAnswers, WritesAll, write_failed};
 
 use byte_text::OutOfMemory;

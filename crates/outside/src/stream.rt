@@ -4,11 +4,11 @@ ghost use Rattle.std.specs.Prelude.{None, ◌∷◌, [], ◌≡◌, ◌≢◌, �
 ghost use Rattle.std.specs.IoError.{error_kind};
 ghost use Rattle.std.specs.declared.io.ErrorKind.TheVariants.{Interrupted};
 ghost use Rattle.outside.specs.Plan.{count_after};
-ghost use Rattle.outside.specs.Told.{TellsMore, wrote};
+ghost use Rattle.outside.specs.Journal.{TellsMore, wrote};
 ghost use Rattle.outside.specs.Write.{WriteAnswers, write_failed};
 ghost use Rattle.outside.specs.inner.Front.{IsWriteError};
 
-use crate::plan::counted;
+use crate::plan::count_after;
 use crate::sink::{Sink, WriteError};
 use byte_text::OutOfMemory;
 use std::io;
@@ -54,7 +54,7 @@ fn write_some<P: Print>(stream: &P, faults: &mut u64, bytes: &[u8]) -> Result<us
         Err(error) => Err(write_error(&error)),
     };
     let failed = matches!(answer, Err(WriteError::Failed));
-    *faults = counted(failed, *faults);
+    *faults = count_after(failed, *faults);
     answer
 }
 

@@ -3,12 +3,12 @@
 ghost use Rattle.std.specs.Prelude.{◌≡◌, ◌≤◌, ◌∷◌, [], Some, false, option_copied};
 ghost use Rattle.outside.specs.Load.{LoadAnswers, load_failed, load_of};
 ghost use Rattle.outside.specs.Put.{PutAnswers, put_failed};
-ghost use Rattle.outside.specs.Told.{Loaded, Put, TellsMore};
-ghost use Rattle.outside.specs.Traced.{calls_told};
+ghost use Rattle.outside.specs.Journal.{Loaded, Put, TellsMore};
+ghost use Rattle.outside.specs.Traced.{calls_in};
 
-use crate::calls_kept::FolderCall;
+use crate::call_journal::FolderCall;
 use crate::folder::{Folder, LoadError, PutError};
-use crate::kept::Kept;
+use crate::journal::Journal;
 use std::alloc::Global;
 use std::marker::Model;
 
@@ -17,16 +17,16 @@ use std::marker::Model;
 pub struct Traced<F> {
     alloc: Global,
     folder: F,
-    calls: Kept<FolderCall>,
+    calls: Journal<FolderCall>,
 }
 
 impl<F> Model for Traced<F> {
     ghost use Rattle.outside.specs.Traced as seen;
-    ghost use Rattle.outside.specs.Traced.{calls_told};
+    ghost use Rattle.outside.specs.Traced.{calls_in};
 
     ghost Value = { seen.Traced F };
 
-    ghost view = { λ t. record { folder = t.folder; calls = calls_told t.calls } };
+    ghost view = { λ t. record { folder = t.folder; calls = calls_in t.calls } };
 }
 
 impl<F> Traced<F> {
@@ -37,13 +37,13 @@ impl<F> Traced<F> {
         Traced {
             alloc,
             folder,
-            calls: Kept::new(alloc),
+            calls: Journal::new(alloc),
         }
     }
 
     /// The calls that were made, in their order, None once memory for one of them was refused.
     pub fn calls(&self) -> Option<&[FolderCall]>
-        ensures { calls_told (option_copied result) ≡ self.now.calls }
+        ensures { calls_in (option_copied result) ≡ self.now.calls }
     {
         self.calls.entries()
     }

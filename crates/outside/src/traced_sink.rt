@@ -1,12 +1,12 @@
 //! A sink that keeps the writes that were made to it.
 
 ghost use Rattle.std.specs.Prelude.{◌≡◌, ◌≤◌, ◌∷◌, [], Some, false, option_copied};
-ghost use Rattle.outside.specs.Told.{TellsMore, wrote};
-ghost use Rattle.outside.specs.Traced.{writes_told};
+ghost use Rattle.outside.specs.Journal.{TellsMore, wrote};
+ghost use Rattle.outside.specs.Traced.{writes_in};
 ghost use Rattle.outside.specs.Write.{WriteAnswers, write_failed};
 
-use crate::calls_kept::SinkWrite;
-use crate::kept::Kept;
+use crate::call_journal::SinkWrite;
+use crate::journal::Journal;
 use crate::sink::{Sink, WriteError};
 use std::alloc::Global;
 use std::marker::Model;
@@ -16,16 +16,16 @@ use std::marker::Model;
 pub struct TracedSink<S> {
     alloc: Global,
     sink: S,
-    writes: Kept<SinkWrite>,
+    writes: Journal<SinkWrite>,
 }
 
 impl<S> Model for TracedSink<S> {
     ghost use Rattle.outside.specs.Traced as seen;
-    ghost use Rattle.outside.specs.Traced.{writes_told};
+    ghost use Rattle.outside.specs.Traced.{writes_in};
 
     ghost Value = { seen.TracedSink S };
 
-    ghost view = { λ t. record { sink = t.sink; writes = writes_told t.writes } };
+    ghost view = { λ t. record { sink = t.sink; writes = writes_in t.writes } };
 }
 
 impl<S> TracedSink<S> {
@@ -36,13 +36,13 @@ impl<S> TracedSink<S> {
         TracedSink {
             alloc,
             sink,
-            writes: Kept::new(alloc),
+            writes: Journal::new(alloc),
         }
     }
 
     /// The writes that were made, in their order, None once memory for one of them was refused.
     pub fn writes(&self) -> Option<&[SinkWrite]>
-        ensures { writes_told (option_copied result) ≡ self.now.writes }
+        ensures { writes_in (option_copied result) ≡ self.now.writes }
     {
         self.writes.entries()
     }

@@ -9,15 +9,15 @@ use Rattle.std.proofs.lemmas.List.Kept.{AllPairs-cons}
 use Rattle.cg_format.specs.declared.trigger.Trigger.{Trigger}
 use Rattle.cg_format.specs.declared.trigger.Trigger.TheVariants.{Termination}
 use Rattle.sym_map.specs.SymbolMap.{SymbolMap}
-use Rattle.shadow_stack.specs.Traces.{Seen}
+use Rattle.shadow_stack.specs.Traces.{EventOnStack}
 use Rattle.arc_costs.specs.Contents.{Listed}
 use Rattle.cg_format.specs.Rows.{below}
 use Rattle.cg_format.specs.declared.head.PartHead.{PartHead}
-use Rattle.part_dump.specs.Cuts.{Asked, cuts}
+use Rattle.part_dump.specs.Cuts.{DumpPoints, cuts}
 use Rattle.outside.specs.Outside.{Named}
 use Rattle.part_dump.specs.Files.{part_name}
 use Rattle.part_dump.specs.Parts.{closed_files, files, segment_files, thread_files}
-use Rattle.part_dump.specs.Steps.{Step, greatest, own_seen, thread_of}
+use Rattle.part_dump.specs.Steps.{Step, greatest, events_on_stack_of, thread_of}
 use Rattle.part_dump.proofs.CutLemmas.{cuts_limit, cuts_together}
 use Rattle.part_dump.proofs.NameLemmas.{names_apart}
 
@@ -70,7 +70,7 @@ greatest_below limit most [] small all = small
 greatest_below limit most (x ∷ xs) small all =
     let this = all.0 in greatest_below limit (max most (thread_of x)) xs (omega arith) all.1
 
-module _ (rows_of : List Seen → Listed) (head : PartHead) (syms : SymbolMap) (base : List ℕ) where
+module _ (rows_of : List EventOnStack → Listed) (head : PartHead) (syms : SymbolMap) (base : List ℕ) where
   -- a file of a part, of a thread below a number
   abbrev IsOfPart : ℕ → ℕ → Named → Type 0
   IsOfPart part n f = (thread : ℕ) × (thread < n) × (f.0 ≡ part_name base part thread)
@@ -100,23 +100,23 @@ module _ (rows_of : List Seen → Listed) (head : PartHead) (syms : SymbolMap) (
   -- the files of a part, of the threads below a number
   abbrev files_below : ℕ → Trigger → List Step → ℕ → List Named
   files_below part trigger segment n =
-      flat_map (λ thread. thread_files rows_of head syms base part trigger thread (own_seen thread segment)) (below n)
+      flat_map (λ thread. thread_files rows_of head syms base part trigger thread (events_on_stack_of thread segment)) (below n)
 
-  one_of_part : (part : ℕ) (trigger : Trigger) (n : ℕ) (xs : List Seen)
+  one_of_part : (part : ℕ) (trigger : Trigger) (n : ℕ) (xs : List EventOnStack)
       → Each (λ f. f.0 ≡ part_name base part n) (thread_files rows_of head syms base part trigger n xs)
   one_of_part part trigger n [] = tt
   one_of_part part trigger n (x ∷ xs) = (refl, tt)
 
-  one_apart : (part : ℕ) (trigger : Trigger) (n : ℕ) (xs : List Seen)
+  one_apart : (part : ℕ) (trigger : Trigger) (n : ℕ) (xs : List EventOnStack)
       → AreApart (thread_files rows_of head syms base part trigger n xs)
   one_apart part trigger n [] = tt
   one_apart part trigger n (x ∷ xs) = (tt, tt)
 
   pub files_more : (part : ℕ) (trigger : Trigger) (segment : List Step) (n : ℕ)
       → files_below part trigger segment (suc n)
-      ≡ files_below part trigger segment n ++ thread_files rows_of head syms base part trigger n (own_seen n segment)
+      ≡ files_below part trigger segment n ++ thread_files rows_of head syms base part trigger n (events_on_stack_of n segment)
   files_more part trigger segment n =
-      let file = λ (thread : ℕ). thread_files rows_of head syms base part trigger thread (own_seen thread segment) in
+      let file = λ (thread : ℕ). thread_files rows_of head syms base part trigger thread (events_on_stack_of thread segment) in
       flat_map-append file (below n) (n ∷ []) ∙ ap (λ fs. flat_map file (below n) ++ fs) (append-nil (file n))
 
   part_files : (part : ℕ) (trigger : Trigger) (segment : List Step) (n : ℕ) → part < 2 ^ 32 → n ≤ 2 ^ 32
@@ -125,8 +125,8 @@ module _ (rows_of : List Seen → Listed) (head : PartHead) (syms : SymbolMap) (
   part_files part trigger segment (suc n) small below =
       let before = part_files part trigger segment n small (omega arith) in
       let old = files_below part trigger segment n in
-      let new = thread_files rows_of head syms base part trigger n (own_seen n segment) in
-      let named = one_of_part part trigger n (own_seen n segment) in
+      let new = thread_files rows_of head syms base part trigger n (events_on_stack_of n segment) in
+      let named = one_of_part part trigger n (events_on_stack_of n segment) in
       let both : List Named → Type 0 = λ fs. Each (IsOfPart part (suc n)) fs × AreApart fs in
       subst both (sym (files_more part trigger segment n)) (
         Each-append (IsOfPart part (suc n)) old new
@@ -134,7 +134,7 @@ module _ (rows_of : List Seen → Listed) (head : PartHead) (syms : SymbolMap) (
             (λ f of-part. (of-part.0, omega (arith, of-part.1), of-part.2)) old before.0)
             (Each-weaker (λ f. f.0 ≡ part_name base part n) (IsOfPart part (suc n))
             (λ f is. (n, omega arith, is)) new named),
-        AreApart-append old new before.1 (one_apart part trigger n (own_seen n segment))
+        AreApart-append old new before.1 (one_apart part trigger n (events_on_stack_of n segment))
             (Each-weaker (IsOfPart part n) (DiffersFrom new)
             (λ f of-part. Each-weaker (λ g. g.0 ≡ part_name base part n) (λ g. f.0 ≢ g.0)
             (λ g is. other_thread part n small (omega arith) f g of-part is) new named) old before.0),
@@ -191,7 +191,7 @@ module _ (rows_of : List Seen → Listed) (head : PartHead) (syms : SymbolMap) (
       let rest = flat_map (λ (s : List Step × Trigger). s.0) segments in
       (Each-left P s.0 rest few, few_in_closed segments (Each-right P s.0 rest few))
 
-  pub files_apart : (asked : Asked) (trace : List Step) → All (λ x. thread_of x < 2 ^ 32) trace
+  pub files_apart : (asked : DumpPoints) (trace : List Step) → All (λ x. thread_of x < 2 ^ 32) trace
       → AllPairs (λ f g. f.0 ≢ g.0) (files rows_of head syms base asked trace)
   unfolding files
   files_apart asked trace few =

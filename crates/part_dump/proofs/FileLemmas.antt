@@ -7,19 +7,19 @@ use Rattle.event_costs.specs.declared.numbers.ThreadNo.{ThreadNo}
 use Rattle.cg_format.specs.declared.trigger.Trigger.{Trigger}
 use Rattle.cg_format.specs.declared.trigger.Trigger.TheVariants.{Termination}
 use Rattle.sym_map.specs.SymbolMap.{SymbolMap}
-use Rattle.shadow_stack.specs.Traces.{Seen}
+use Rattle.shadow_stack.specs.Traces.{EventOnStack}
 use Rattle.arc_costs.specs.Contents.{Listed}
 use Rattle.cg_format.specs.declared.head.PartHead.{PartHead}
 use Rattle.part_dump.specs.Calls.{Call, Readies, Sees, Writes, calls, closed_calls, part_calls, segment_calls}
 use Rattle.part_dump.specs.Calls.{steps_calls, thread_calls, tried_calls}
-use Rattle.part_dump.specs.Cuts.{Asked, cuts}
+use Rattle.part_dump.specs.Cuts.{DumpPoints, cuts}
 use Rattle.outside.specs.Outside.{Named}
 use Rattle.part_dump.specs.Parts.{closed_files, files, segment_files, thread_files}
 use Rattle.part_dump.specs.Plain.{Stateless, plain}
-use Rattle.part_dump.specs.Steps.{Step, own_seen, threads}
+use Rattle.part_dump.specs.Steps.{Step, events_on_stack_of, threads}
 use Rattle.part_dump.specs.Watching.{after_call, put_of, puts}
 
-module _ (rows_of : List Seen → Listed) (head : PartHead) (syms : SymbolMap) (base : List ℕ) (w : Stateless) where
+module _ (rows_of : List EventOnStack → Listed) (head : PartHead) (syms : SymbolMap) (base : List ℕ) (w : Stateless) where
   abbrev put : Call → List Named
   put c = put_of plain syms base w c
 
@@ -40,7 +40,7 @@ module _ (rows_of : List Seen → Listed) (head : PartHead) (syms : SymbolMap) (
   no_puts [] = refl
   no_puts (x ∷ xs) = no_puts xs
 
-  thread_puts : (part : ℕ) (trigger : Trigger) (thread : ℕ) (xs : List Seen)
+  thread_puts : (part : ℕ) (trigger : Trigger) (thread : ℕ) (xs : List EventOnStack)
       → put_all (thread_calls rows_of head part trigger thread xs)
       ≡ thread_files rows_of head syms base part trigger thread xs
   thread_puts part trigger thread [] = refl
@@ -57,9 +57,9 @@ module _ (rows_of : List Seen → Listed) (head : PartHead) (syms : SymbolMap) (
       → put_all (part_calls rows_of head part segment trigger)
       ≡ segment_files rows_of head syms base part segment trigger
   part_puts part segment trigger =
-      put_each (λ thread. thread_calls rows_of head part trigger thread (own_seen thread segment))
-      (λ thread. thread_files rows_of head syms base part trigger thread (own_seen thread segment))
-      (λ thread. thread_puts part trigger thread (own_seen thread segment)) (threads segment)
+      put_each (λ thread. thread_calls rows_of head part trigger thread (events_on_stack_of thread segment))
+      (λ thread. thread_files rows_of head syms base part trigger thread (events_on_stack_of thread segment))
+      (λ thread. thread_puts part trigger thread (events_on_stack_of thread segment)) (threads segment)
 
   segment_puts : (s : ℕ × (List Step × Trigger))
       → put_all (segment_calls rows_of head s.0 s.1.0 s.1.1) ≡ segment_files rows_of head syms base s.0 s.1.0 s.1.1
@@ -83,7 +83,7 @@ module _ (rows_of : List Seen → Listed) (head : PartHead) (syms : SymbolMap) (
       flat_map-append put (a ++ b ++ c) d ∙ ap (λ fs. fs ++ put_all d)
       (flat_map-append put (a ++ b) c ∙ ap (λ fs. fs ++ put_all c) (flat_map-append put a b))
 
-  pub plain_files : (asked : Asked) (trace : List Step) (tried : Option (ThreadNo × ℕ))
+  pub plain_files : (asked : DumpPoints) (trace : List Step) (tried : Option (ThreadNo × ℕ))
       → puts plain syms base w (calls rows_of head syms asked trace tried) ≡ files rows_of head syms base asked trace
   unfolding calls files
   plain_files asked trace tried =

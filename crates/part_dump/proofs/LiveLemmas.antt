@@ -9,7 +9,7 @@ use Rattle.sym_map.specs.SymbolMap.{SymbolMap}
 use Rattle.shadow_stack.specs.Changes.{after}
 use Rattle.shadow_stack.specs.Traces.{stack_of}
 use Rattle.cg_format.specs.Rows.{below}
-use Rattle.part_dump.specs.Steps.{Step, event_of, frames_in, greatest, live, own, own_events, stack_at, thread_of}
+use Rattle.part_dump.specs.Steps.{Step, event_of, frames_in, greatest, live, steps_of_thread, events_of_thread, stack_at, thread_of}
 use Rattle.part_dump.proofs.StepLemmas.{events-push, own-other, stack-push}
 
 -- ---- sums over the numbers below a bound
@@ -82,22 +82,22 @@ least-from m [] = omega arith
 least-from m (x ∷ xs) = let rest = least-from (max m (thread_of x)) xs in omega (arith, rest)
 
 -- a thread above the greatest has no step
-above-from : (t m : ℕ) (xs : List Step) → fold (λ most y. max most (thread_of y)) m xs < t → own t xs ≡ []
+above-from : (t m : ℕ) (xs : List Step) → fold (λ most y. max most (thread_of y)) m xs < t → steps_of_thread t xs ≡ []
 above-from t m [] lt = refl
 above-from t m (x ∷ xs) lt =
-    elim (eqb_tells (thread_of x) t) as (λ _. own t (x ∷ xs) ≡ []) [
+    elim (eqb_tells (thread_of x) t) as (λ _. steps_of_thread t (x ∷ xs) ≡ []) [
       | inl is ↦ (let least = least-from (max m (thread_of x)) xs in absurd (omega (arith, lt, least, is.1)))
       | inr differs ↦
-          ap (λ b. if b then x ∷ own t xs else own t xs) differs.0 ∙ above-from t (max m (thread_of x)) xs lt
+          ap (λ b. if b then x ∷ steps_of_thread t xs else steps_of_thread t xs) differs.0 ∙ above-from t (max m (thread_of x)) xs lt
     ]
 
-pub above_greatest : (t : ℕ) (xs : List Step) → greatest xs < t → own t xs ≡ []
+pub above_greatest : (t : ℕ) (xs : List Step) → greatest xs < t → steps_of_thread t xs ≡ []
 above_greatest t xs lt = above-from t 0 xs lt
 
 -- ---- frames
 
 -- the frames that are no roots, of a thread that has made no step: none
-no_frames : (syms : SymbolMap) (xs : List Step) (t p : ℕ) → own t xs ≡ [] → frames_in (stack_at syms xs t p) ≡ 0
+no_frames : (syms : SymbolMap) (xs : List Step) (t p : ℕ) → steps_of_thread t xs ≡ [] → frames_in (stack_at syms xs t p) ≡ 0
 no_frames syms xs t p none = ap (λ ys. frames_in (stack_of syms (map event_of ys) p)) none
 
 -- wherever a thread is said to begin
@@ -141,10 +141,10 @@ module _ (syms : SymbolMap) (xs : List Step) (x : Step) where
       ≡ live syms xs + frames_in (after syms (stack_at syms xs (thread_of x) (event_of x).done.pc) (event_of x))
   live_push =
       let sums = sum-one frames_now frames_before (thread_of x) (suc (greatest all)) others within in
-      let old = same_frames syms (own (thread_of x) xs) (event_of x).done.pc 0 in
+      let old = same_frames syms (steps_of_thread (thread_of x) xs) (event_of x).done.pc 0 in
       let new =
       ap (λ es. frames_in (stack_of syms es 0)) (events-push (thread_of x) xs x refl)
-      ∙ ap frames_in (stack-push syms (own_events (thread_of x) xs) (event_of x) 0) in
+      ∙ ap frames_in (stack-push syms (events_of_thread (thread_of x) xs) (event_of x) 0) in
       omega (arith, sums, old, new, before_all)
 
 -- the frames of a thread are among those of all threads
@@ -162,7 +162,7 @@ le-below f t (suc n) lt =
 
 pub frames_within : (syms : SymbolMap) (xs : List Step) (t p : ℕ) → frames_in (stack_at syms xs t p) ≤ live syms xs
 frames_within syms xs t p =
-    let same = same_frames syms (own t xs) p 0 in
+    let same = same_frames syms (steps_of_thread t xs) p 0 in
     elim (by (nat_le t (greatest xs)) refl) as (λ _. frames_in (stack_at syms xs t p) ≤ live syms xs) [
       | inl le ↦
           (let share = le-below (λ n. frames_in (stack_at syms xs n 0)) t (suc (greatest xs)) (omega (arith, le)) in

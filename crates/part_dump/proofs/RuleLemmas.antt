@@ -19,8 +19,8 @@ use Rattle.cg_format.specs.declared.trigger.Trigger.TheVariants.{After, Before, 
 use Rattle.sym_map.specs.SymbolMap.{SymbolMap}
 use Rattle.shadow_stack.specs.Changes.{change}
 use Rattle.shadow_stack.specs.Stacks.{Activation}
-use Rattle.shadow_stack.specs.Traces.{Seen}
-use Rattle.part_dump.specs.Cuts.{Asked, after_cut, before_cut, cut_after, dropped, every_cut, has_name, or_else}
+use Rattle.shadow_stack.specs.Traces.{EventOnStack}
+use Rattle.part_dump.specs.Cuts.{DumpPoints, after_cut, before_cut, cut_after, dropped_frames, every_cut, has_name, or_else}
 use Rattle.part_dump.specs.Rules.{AreNamed, IsNotedOf, IsRuleOf, Rule, after_due, before_due, due_after}
 
 is_text-Decides : (o : Option (List ℕ)) (name : List ℕ)
@@ -50,7 +50,7 @@ pushed_named : (syms : SymbolMap) (name : List ℕ) (funcs : List FuncId) → Ar
 pushed_named syms name funcs named None = refl
 pushed_named syms name funcs named (Some a) = among_named syms name funcs named a.func
 
-before_is : (syms : SymbolMap) (rule : Rule) (asked : Option (List ℕ)) (x : Seen) (pushed : Option FuncId)
+before_is : (syms : SymbolMap) (rule : Rule) (asked : Option (List ℕ)) (x : EventOnStack) (pushed : Option FuncId)
     → AreNamed syms asked rule.before → pushed ≡ option_map (λ a. a.func) (change syms x.event x.stack).pushed
     → before_due rule pushed asked ≡ before_cut syms asked x
 before_is syms rule None x pushed named is = refl
@@ -59,20 +59,20 @@ before_is syms rule (Some name) x pushed named is =
     ap cut (ap (λ p. option_map_or (is_among rule.before) p false) is
     ∙ pushed_named syms name rule.before named (change syms x.event x.stack).pushed)
 
-after_is : (syms : SymbolMap) (rule : Rule) (asked : Option (List ℕ)) (x : Seen) (left : Bool)
-    → AreNamed syms asked rule.after → left ≡ list_any (λ a. is_among rule.after a.func) (dropped syms x)
+after_is : (syms : SymbolMap) (rule : Rule) (asked : Option (List ℕ)) (x : EventOnStack) (left : Bool)
+    → AreNamed syms asked rule.after → left ≡ list_any (λ a. is_among rule.after a.func) (dropped_frames syms x)
     → after_due left asked ≡ after_cut syms asked x
 after_is syms rule None x left named is = refl
 after_is syms rule (Some name) x left named is =
     let cut : Bool → Option Trigger = λ b. if b then Some (After name) else None in
     ap cut (is ∙ any_agree (λ a. is_among rule.after a.func) (λ a. has_name syms name a.func)
-    (λ a. among_named syms name rule.after named a.func) (dropped syms x))
+    (λ a. among_named syms name rule.after named a.func) (dropped_frames syms x))
 
-pub due_is_cut : (syms : SymbolMap) (asked : Asked) (rule : Rule) (steps : ℕ) (x : Seen) (noted : Noted)
+pub due_is_cut : (syms : SymbolMap) (asked : DumpPoints) (rule : Rule) (steps : ℕ) (x : EventOnStack) (noted : Noted)
     → IsRuleOf syms asked rule → IsNotedOf syms rule.after x noted
     → due_after rule steps noted ≡ cut_after syms asked steps x
 due_is_cut syms asked rule steps x noted is did =
-    ap (λ (a : Asked). or_else (every_cut a.every steps)
+    ap (λ (a : DumpPoints). or_else (every_cut a.every steps)
     (or_else (before_due rule noted.pushed a.before) (after_due noted.left a.after)))
     is.said
     ∙ ap (λ b. or_else (every_cut asked.every steps) (or_else b (after_due noted.left asked.after)))
@@ -93,19 +93,19 @@ or_none None = refl
 or_none (Some t) = refl
 
 -- an event that pushes nothing and drops nothing that is watched is cut for its number alone
-pub cut_by_number : (syms : SymbolMap) (asked : Asked) (rule : Rule) (steps : ℕ) (x : Seen) (noted : Noted)
+pub cut_by_number : (syms : SymbolMap) (asked : DumpPoints) (rule : Rule) (steps : ℕ) (x : EventOnStack) (noted : Noted)
     → IsRuleOf syms asked rule → IsNotedOf syms rule.after x noted → noted.pushed ≡ None → noted.left ≡ false
     → cut_after syms asked steps x ≡ every_cut asked.every steps
 cut_by_number syms asked rule steps x noted is did pushed left =
     let due : Option Trigger → Option Trigger → Option Trigger = λ b a.
-    or_else (every_cut rule.asked.every steps) (or_else b a) in
+    or_else (every_cut rule.dump_points.every steps) (or_else b a) in
     sym (due_is_cut syms asked rule steps x noted is did)
-    ∙ ap (λ p. due (before_due rule p rule.asked.before) (after_due noted.left rule.asked.after)) pushed
-    ∙ ap (λ b. due b (after_due noted.left rule.asked.after)) (none_before rule rule.asked.before)
-    ∙ ap (λ l. due None (after_due l rule.asked.after)) left
-    ∙ ap (due None) (none_after rule.asked.after)
-    ∙ or_none (every_cut rule.asked.every steps)
-    ∙ ap (λ (a : Asked). every_cut a.every steps) is.said
+    ∙ ap (λ p. due (before_due rule p rule.dump_points.before) (after_due noted.left rule.dump_points.after)) pushed
+    ∙ ap (λ b. due b (after_due noted.left rule.dump_points.after)) (none_before rule rule.dump_points.before)
+    ∙ ap (λ l. due None (after_due l rule.dump_points.after)) left
+    ∙ ap (due None) (none_after rule.dump_points.after)
+    ∙ or_none (every_cut rule.dump_points.every steps)
+    ∙ ap (λ (a : DumpPoints). every_cut a.every steps) is.said
 
 is_some_rest : (a : ℕ) → a ≢ 0 → (a == 0) ≡ false
 is_some_rest a some = grind (arith, nat_tests)

@@ -11,12 +11,12 @@ use Rattle.sym_map.specs.SymbolMap.{SymbolMap}
 use Rattle.shadow_stack.specs.Changes.{after}
 use Rattle.shadow_stack.specs.Stacks.{root}
 use Rattle.shadow_stack.specs.Traces.{first_pc, stack_after, stack_of}
-use Rattle.part_dump.specs.Steps.{Step, event_of, own, own_events, own_seen, stack_at, thread_of}
+use Rattle.part_dump.specs.Steps.{Step, event_of, steps_of_thread, events_of_thread, events_on_stack_of, stack_at, thread_of}
 
 pub is_not : (m n : ℕ) → m ≢ n → (m == n) ≡ false
 is_not m n other = grind (arith, nat_tests)
 
-pub own-append : (thread : ℕ) (xs ys : List Step) → own thread (xs ++ ys) ≡ own thread xs ++ own thread ys
+pub own-append : (thread : ℕ) (xs ys : List Step) → steps_of_thread thread (xs ++ ys) ≡ steps_of_thread thread xs ++ steps_of_thread thread ys
 own-append thread xs ys = filter-append (λ x. thread_of x == thread) xs ys
 
 own_one : (b : Bool) (x : Step) → b ≡ true → (if b then x ∷ [] else []) ≡ x ∷ []
@@ -28,17 +28,17 @@ none_of false x is = refl
 none_of true x is = absurd (cc)
 
 pub own-push : (thread : ℕ) (xs : List Step) (x : Step) → thread_of x ≡ thread
-    → own thread (xs ++ x ∷ []) ≡ own thread xs ++ x ∷ []
+    → steps_of_thread thread (xs ++ x ∷ []) ≡ steps_of_thread thread xs ++ x ∷ []
 own-push thread xs x is =
     own-append thread xs (x ∷ [])
-    ∙ ap (λ ys. own thread xs ++ ys) (own_one (thread_of x == thread) x (grind (arith, nat_tests)))
+    ∙ ap (λ ys. steps_of_thread thread xs ++ ys) (own_one (thread_of x == thread) x (grind (arith, nat_tests)))
 
 pub own-other : (thread : ℕ) (xs : List Step) (x : Step) → thread_of x ≢ thread
-    → own thread (xs ++ x ∷ []) ≡ own thread xs
+    → steps_of_thread thread (xs ++ x ∷ []) ≡ steps_of_thread thread xs
 own-other thread xs x other =
     own-append thread xs (x ∷ [])
-    ∙ ap (λ ys. own thread xs ++ ys) (none_of (thread_of x == thread) x (is_not (thread_of x) thread other))
-    ∙ append-nil (own thread xs)
+    ∙ ap (λ ys. steps_of_thread thread xs ++ ys) (none_of (thread_of x == thread) x (is_not (thread_of x) thread other))
+    ∙ append-nil (steps_of_thread thread xs)
 
 first-push : (es : List Event) (e : Event) (pc : ℕ) → first_pc (es ++ e ∷ []) pc ≡ first_pc es e.done.pc
 first-push [] e pc = refl
@@ -51,20 +51,20 @@ stack-push syms es e pc =
     ∙ ap (λ p. after syms (stack_after syms (root syms p) es) e) (first-push es e pc)
 
 pub events-push : (thread : ℕ) (xs : List Step) (x : Step) → thread_of x ≡ thread
-    → own_events thread (xs ++ x ∷ []) ≡ own_events thread xs ++ event_of x ∷ []
+    → events_of_thread thread (xs ++ x ∷ []) ≡ events_of_thread thread xs ++ event_of x ∷ []
 events-push thread xs x is =
-    ap (λ ys. map event_of ys) (own-push thread xs x is) ∙ map-append event_of (own thread xs) (x ∷ [])
+    ap (λ ys. map event_of ys) (own-push thread xs x is) ∙ map-append event_of (steps_of_thread thread xs) (x ∷ [])
 
 pub seen-push : (thread : ℕ) (xs : List Step) (x : Step) → thread_of x ≡ thread
-    → own_seen thread (xs ++ x ∷ []) ≡ own_seen thread xs ++ x.seen ∷ []
+    → events_on_stack_of thread (xs ++ x ∷ []) ≡ events_on_stack_of thread xs ++ x.on_stack ∷ []
 seen-push thread xs x is =
-    ap (λ ys. map (λ (y : Step). y.seen) ys) (own-push thread xs x is)
-    ∙ map-append (λ (y : Step). y.seen) (own thread xs) (x ∷ [])
+    ap (λ ys. map (λ (y : Step). y.on_stack) ys) (own-push thread xs x is)
+    ∙ map-append (λ (y : Step). y.on_stack) (steps_of_thread thread xs) (x ∷ [])
 
 -- where a thread has steps, its stack is the same wherever it is said to begin
-pub same_stack : (syms : SymbolMap) (xs : List Step) (thread p q : ℕ) → own thread xs ≢ []
+pub same_stack : (syms : SymbolMap) (xs : List Step) (thread p q : ℕ) → steps_of_thread thread xs ≢ []
     → stack_at syms xs thread p ≡ stack_at syms xs thread q
-same_stack syms xs thread p q some = by_own (own thread xs) some
+same_stack syms xs thread p q some = by_own (steps_of_thread thread xs) some
   where
     by_own : (ys : List Step) → ys ≢ [] → stack_of syms (map event_of ys) p ≡ stack_of syms (map event_of ys) q
     by_own [] none = absurd (none refl)

@@ -5,11 +5,11 @@ use Rattle.event_costs.specs.declared.numbers.ThreadNo.{ThreadNo}
 use Rattle.cg_format.specs.declared.trigger.Trigger.{Trigger}
 use Rattle.cg_format.specs.declared.trigger.Trigger.TheVariants.{Termination}
 use Rattle.sym_map.specs.SymbolMap.{SymbolMap}
-use Rattle.shadow_stack.specs.Traces.{Seen}
+use Rattle.shadow_stack.specs.Traces.{EventOnStack}
 use Rattle.arc_costs.specs.Contents.{Listed}
 use Rattle.cg_format.specs.declared.head.PartHead.{PartHead}
-use Rattle.part_dump.specs.Cuts.{Asked, cuts}
-use Rattle.part_dump.specs.Steps.{Step, event_of, own_seen, threads}
+use Rattle.part_dump.specs.Cuts.{DumpPoints, cuts}
+use Rattle.part_dump.specs.Steps.{Step, event_of, events_on_stack_of, threads}
 
 -- A thread is ready to step at a pc; a step was made; a part of these rows is to be written.
 pub data Call : Type 0 where
@@ -35,16 +35,16 @@ tried_calls None = []
 tried_calls (Some tried) = Readies tried.0 tried.1 ∷ []
 
 -- How the events of a thread in a segment are summed up in rows is given.
-module _ (rows_of : List Seen → Listed) (head : PartHead) where
+module _ (rows_of : List EventOnStack → Listed) (head : PartHead) where
   -- a thread without an event in the segment has no part
-  abbrev pub thread_calls : ℕ → Trigger → ℕ → List Seen → List Call
+  abbrev pub thread_calls : ℕ → Trigger → ℕ → List EventOnStack → List Call
   thread_calls part trigger thread [] = []
   thread_calls part trigger thread (x ∷ xs) = Writes (head_of head part trigger thread) (rows_of (x ∷ xs)) ∷ []
 
   -- the parts of a segment, by rising thread
   abbrev pub part_calls : ℕ → List Step → Trigger → List Call
   part_calls part segment trigger =
-      flat_map (λ thread. thread_calls part trigger thread (own_seen thread segment)) (threads segment)
+      flat_map (λ thread. thread_calls part trigger thread (events_on_stack_of thread segment)) (threads segment)
 
   abbrev pub segment_calls : ℕ → List Step → Trigger → List Call
   segment_calls part segment trigger = steps_calls segment ++ part_calls part segment trigger
@@ -55,7 +55,7 @@ module _ (rows_of : List Seen → Listed) (head : PartHead) where
 
   -- the calls of a whole run: those of the segments that cuts end, the steps after the last cut, the step that was
   -- tried, and the last parts
-  unfoldable pub calls : SymbolMap → Asked → List Step → Option (ThreadNo × ℕ) → List Call
+  unfoldable pub calls : SymbolMap → DumpPoints → List Step → Option (ThreadNo × ℕ) → List Call
   calls syms asked trace tried =
       closed_calls (cuts syms asked trace).closed ++ steps_calls (cuts syms asked trace).recent ++ tried_calls tried
       ++ part_calls (length (cuts syms asked trace).closed + 1) (cuts syms asked trace).recent Termination

@@ -8,14 +8,14 @@ use Rattle.event_costs.specs.declared.numbers.FuncId.{FuncId}
 use Rattle.cg_format.specs.declared.trigger.Trigger.{Trigger}
 use Rattle.cg_format.specs.declared.trigger.Trigger.TheVariants.{Every, Before, After}
 use Rattle.sym_map.specs.SymbolMap.{SymbolMap}
-use Rattle.shadow_stack.specs.Changes.{change, gone}
+use Rattle.shadow_stack.specs.Changes.{change, drop_count}
 use Rattle.shadow_stack.specs.Stacks.{Stack}
-use Rattle.shadow_stack.specs.Traces.{Seen}
+use Rattle.shadow_stack.specs.Traces.{EventOnStack}
 use Rattle.cache_lru.specs.Costs.{each_after}
 use Rattle.part_dump.specs.Steps.{Step}
 
 -- What was asked for: a cut after each so many steps, and at functions of these names.
-pub record Asked : Type 0 where
+pub record DumpPoints : Type 0 where
   pub every : Option ℕ
   pub before : Option (List ℕ)
   pub after : Option (List ℕ)
@@ -26,16 +26,16 @@ has_name syms name func =
     option_map_or (λ text. bytes_eq text name) (slice_get (map (λ function. function.name) syms.functions) func.0) false
 
 -- the event pushed a frame of a function of this name
-abbrev pub enters : SymbolMap → List ℕ → Seen → Bool
+abbrev pub enters : SymbolMap → List ℕ → EventOnStack → Bool
 enters syms name x = option_map_or (λ a. has_name syms name a.func) (change syms x.event x.stack).pushed false
 
 -- the frames that an event drops, by the end of its thread too
-abbrev pub dropped : SymbolMap → Seen → Stack
-dropped syms x = take (gone syms x.event x.stack) x.stack
+abbrev pub dropped_frames : SymbolMap → EventOnStack → Stack
+dropped_frames syms x = take (drop_count syms x.event x.stack) x.stack
 
 -- the event dropped a frame of a function of this name
-abbrev pub leaves : SymbolMap → List ℕ → Seen → Bool
-leaves syms name x = list_any (λ a. has_name syms name a.func) (dropped syms x)
+abbrev pub leaves : SymbolMap → List ℕ → EventOnStack → Bool
+leaves syms name x = list_any (λ a. has_name syms name a.func) (dropped_frames syms x)
 
 abbrev pub or_else : Option Trigger → Option Trigger → Option Trigger
 or_else (Some t) other = Some t
@@ -46,16 +46,16 @@ abbrev pub every_cut : Option ℕ → ℕ → Option Trigger
 every_cut None steps = None
 every_cut (Some n) steps = if steps % n == 0 then Some (Every n) else None
 
-abbrev pub before_cut : SymbolMap → Option (List ℕ) → Seen → Option Trigger
+abbrev pub before_cut : SymbolMap → Option (List ℕ) → EventOnStack → Option Trigger
 before_cut syms None x = None
 before_cut syms (Some name) x = if enters syms name x then Some (Before name) else None
 
-abbrev pub after_cut : SymbolMap → Option (List ℕ) → Seen → Option Trigger
+abbrev pub after_cut : SymbolMap → Option (List ℕ) → EventOnStack → Option Trigger
 after_cut syms None x = None
 after_cut syms (Some name) x = if leaves syms name x then Some (After name) else None
 
 -- Whether a cut stands after an event, the last of so many, and its trigger: the first of these that holds.
-abbrev pub cut_after : SymbolMap → Asked → ℕ → Seen → Option Trigger
+abbrev pub cut_after : SymbolMap → DumpPoints → ℕ → EventOnStack → Option Trigger
 cut_after syms asked steps x =
     or_else (every_cut asked.every steps) (or_else (before_cut syms asked.before x) (after_cut syms asked.after x))
 
@@ -87,15 +87,15 @@ abbrev pub most_cuts : ℕ
 most_cuts = 4095
 
 -- a step with the trigger of the cut after it
-abbrev pub marked_after : SymbolMap → Asked → List Step → Step → Step × Option Trigger
-marked_after syms asked before x = (x, cut_after syms asked (length before + 1) x.seen)
+abbrev pub marked_after : SymbolMap → DumpPoints → List Step → Step → Step × Option Trigger
+marked_after syms asked before x = (x, cut_after syms asked (length before + 1) x.on_stack)
 
-abbrev pub marked : SymbolMap → Asked → List Step → List (Step × Option Trigger)
-marked syms asked trace = each_after (marked_after syms asked) [] trace
+abbrev pub marked_steps : SymbolMap → DumpPoints → List Step → List (Step × Option Trigger)
+marked_steps syms asked trace = each_after (marked_after syms asked) [] trace
 
 -- the segments of a trace
-unfoldable pub cuts : SymbolMap → Asked → List Step → Split Step Trigger
-cuts syms asked trace = split most_cuts (marked syms asked trace)
+unfoldable pub cuts : SymbolMap → DumpPoints → List Step → Split Step Trigger
+cuts syms asked trace = split most_cuts (marked_steps syms asked trace)
 
 -- a list that is cut, with one more element and its mark; at most so many marks count
 abbrev pub with_last : {X T : Type 0} → ℕ → Split X T → X → Option T → Split X T

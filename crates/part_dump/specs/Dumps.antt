@@ -3,7 +3,7 @@ use Rattle.std.specs.Prelude.{◌≡◌, ◌⊎◌, ℕ, List, [], ◌∷◌, le
 use Rattle.outside.specs.Files.{Rose, SameBut, with_file}
 use Rattle.outside.specs.Outside.{Shelf}
 use Rattle.byte_text.specs.Memory.{memory}
-use Rattle.outside.specs.Told.{Call, Put, TellsMore}
+use Rattle.outside.specs.Journal.{Call, Put, TellsMore}
 use Rattle.outside.specs.declared.folder.PutError.TheVariants as put
 use Rattle.part_dump.specs.declared.dumping.DumpError.{DumpError}
 use Rattle.part_dump.specs.declared.dumping.DumpError.TheVariants.{PutFault, OutOfMemory}

@@ -20,7 +20,7 @@ pub record IsFront (done : List Named) (next : Option (List ℕ)) (files : List 
   pub follows : IsNext next rest
 
 -- what a refusal leaves: a front of the files stands, and only the next one's name, if one is given, may hold anything
-pub record Refused (files : List Named) (next : Option (List ℕ)) (old new : Option Files) : Type 0 where
+pub record RefusalLeaves (files : List Named) (next : Option (List ℕ)) (old new : Option Files) : Type 0 where
   pub done : List Named
   pub front : IsFront done next files
   pub left : Holds done next old new

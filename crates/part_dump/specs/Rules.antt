@@ -10,12 +10,12 @@ use Rattle.cg_format.specs.declared.trigger.Trigger.{Trigger}
 use Rattle.cg_format.specs.declared.trigger.Trigger.TheVariants.{Before, After}
 use Rattle.sym_map.specs.SymbolMap.{SymbolMap, IsNamed}
 use Rattle.shadow_stack.specs.Changes.{change}
-use Rattle.shadow_stack.specs.Traces.{Seen}
-use Rattle.part_dump.specs.Cuts.{Asked, dropped, every_cut, or_else}
+use Rattle.shadow_stack.specs.Traces.{EventOnStack}
+use Rattle.part_dump.specs.Cuts.{DumpPoints, dropped_frames, every_cut, or_else}
 
 -- what was asked for, and the functions of the names
 pub record Rule : Type 0 where
-  pub asked : Asked
+  pub dump_points : DumpPoints
   pub before : List FuncId
   pub after : List FuncId
 
@@ -24,15 +24,15 @@ abbrev pub AreNamed : SymbolMap → Option (List ℕ) → List FuncId → Type 0
 AreNamed syms None funcs = (func : FuncId) → ¬ Contains funcs func
 AreNamed syms (Some name) funcs = (func : FuncId) → Contains funcs func ↔ IsNamed syms.functions name func
 
-pub record IsRuleOf (syms : SymbolMap) (asked : Asked) (rule : Rule) : Type 0 where
-  pub said : rule.asked ≡ asked
+pub record IsRuleOf (syms : SymbolMap) (asked : DumpPoints) (rule : Rule) : Type 0 where
+  pub said : rule.dump_points ≡ asked
   pub before : AreNamed syms asked.before rule.before
   pub after : AreNamed syms asked.after rule.after
 
 -- what an event did to the stack of its thread, where the functions of a set are watched
-pub record IsNotedOf (syms : SymbolMap) (watched : List FuncId) (x : Seen) (noted : Noted) : Type 0 where
+pub record IsNotedOf (syms : SymbolMap) (watched : List FuncId) (x : EventOnStack) (noted : Noted) : Type 0 where
   pub pushed : noted.pushed ≡ option_map (λ a. a.func) (change syms x.event x.stack).pushed
-  pub left : noted.left ≡ list_any (λ a. is_among watched a.func) (dropped syms x)
+  pub left : noted.left ≡ list_any (λ a. is_among watched a.func) (dropped_frames syms x)
 
 abbrev pub before_due : Rule → Option FuncId → Option (List ℕ) → Option Trigger
 before_due rule pushed None = None
@@ -46,5 +46,5 @@ after_due left (Some name) = if left then Some (After name) else None
 -- the trigger of a cut after the last of so many steps, which did this to its thread's stack
 abbrev pub due_after : Rule → ℕ → Noted → Option Trigger
 due_after rule steps noted =
-    or_else (every_cut rule.asked.every steps)
-    (or_else (before_due rule noted.pushed rule.asked.before) (after_due noted.left rule.asked.after))
+    or_else (every_cut rule.dump_points.every steps)
+    (or_else (before_due rule noted.pushed rule.dump_points.before) (after_due noted.left rule.dump_points.after))

@@ -5,31 +5,31 @@ use Rattle.event_costs.specs.declared.numbers.ThreadNo.{ThreadNo}
 use Rattle.sym_map.specs.SymbolMap.{SymbolMap}
 use Rattle.shadow_stack.specs.Kinds.{is_root}
 use Rattle.shadow_stack.specs.Stacks.{Stack}
-use Rattle.shadow_stack.specs.Traces.{Seen, stack_of}
+use Rattle.shadow_stack.specs.Traces.{EventOnStack, stack_of}
 use Rattle.cg_format.specs.Rows.{below}
 
 -- A step: its event with what it cost and the stack of its thread before it, the address at which the thread began to
 -- wait in it, if it did, and the threads that it woke.
 pub record Step : Type 0 where
-  pub seen : Seen
+  pub on_stack : EventOnStack
   pub wait : Option ℕ
   pub woken : List ThreadNo
 
 abbrev pub event_of : Step → Event
-event_of x = x.seen.event
+event_of x = x.on_stack.event
 
 abbrev pub thread_of : Step → ℕ
-thread_of x = x.seen.event.thread.0
+thread_of x = x.on_stack.event.thread.0
 
 -- the steps of a thread, in their order
-abbrev pub own : ℕ → List Step → List Step
-own thread xs = filter (λ x. thread_of x == thread) xs
+abbrev pub steps_of_thread : ℕ → List Step → List Step
+steps_of_thread thread xs = filter (λ x. thread_of x == thread) xs
 
-abbrev pub own_seen : ℕ → List Step → List Seen
-own_seen thread xs = map (λ x. x.seen) (own thread xs)
+abbrev pub events_on_stack_of : ℕ → List Step → List EventOnStack
+events_on_stack_of thread xs = map (λ x. x.on_stack) (steps_of_thread thread xs)
 
-abbrev pub own_events : ℕ → List Step → List Event
-own_events thread xs = map event_of (own thread xs)
+abbrev pub events_of_thread : ℕ → List Step → List Event
+events_of_thread thread xs = map event_of (steps_of_thread thread xs)
 
 -- the greatest number of a thread of these steps
 abbrev pub greatest : List Step → ℕ
@@ -41,7 +41,7 @@ threads xs = below (suc (greatest xs))
 
 -- the stack of a thread after these steps of all threads, which begins at this pc where it has no step among them
 abbrev pub stack_at : SymbolMap → List Step → ℕ → ℕ → Stack
-stack_at syms earlier thread pc = stack_of syms (own_events thread earlier) pc
+stack_at syms earlier thread pc = stack_of syms (events_of_thread thread earlier) pc
 
 -- the frames of a stack that are no roots
 abbrev pub frames_in : Stack → ℕ

@@ -8,7 +8,7 @@ use Rattle.sym_map.specs.SymbolMap.{SymbolMap}
 use Rattle.shadow_stack.specs.Stacks.{most_frames}
 use Rattle.cg_format.specs.Part.{AreKnown}
 use Rattle.part_dump.specs.Calls.{Call, Readies, Sees, Writes}
-use Rattle.part_dump.specs.Steps.{Step, event_of, live, own, stack_at, thread_of}
+use Rattle.part_dump.specs.Steps.{Step, event_of, live, steps_of_thread, stack_at, thread_of}
 
 -- the steps among calls
 abbrev pub steps_of : Call → List Step
@@ -49,43 +49,43 @@ most_steps = 10 ^ 12
 
 -- a step as it may follow these steps
 pub record IsOrderly (syms : SymbolMap) (earlier : List Step) (x : Step) : Type 0 where
-  pub follows : Follows (last_of (own (thread_of x) earlier)) (event_of x)
-  pub whole : IsWhole x.seen.cost
-  pub ones : All (λ n. n ≤ 1) x.seen.cost
+  pub follows : Follows (last_of (steps_of_thread (thread_of x) earlier)) (event_of x)
+  pub whole : IsWhole x.on_stack.cost
+  pub ones : All (λ n. n ≤ 1) x.on_stack.cost
   pub room : length earlier < most_steps
   pub frames : live syms earlier < most_frames
-  pub stack : x.seen.stack ≡ stack_at syms earlier (thread_of x) (event_of x).done.pc
+  pub stack : x.on_stack.stack ≡ stack_at syms earlier (thread_of x) (event_of x).done.pc
   -- a thread steps where it doesn't wait, and wakes those that wait
   pub awake : waits (thread_of x) earlier ≡ false
   pub wakes : (thread : ℕ) → is_woken thread x ≡ true → waits thread earlier ≡ true
 
 -- the pc at which a thread was last ready
-abbrev pub readied_by : ℕ → Call → Option ℕ → Option ℕ
-readied_by thread (Readies t pc) before = if t.0 == thread then Some pc else before
-readied_by thread (Sees x) before = before
-readied_by thread (Writes head rows) before = before
+abbrev pub ready_pc_by : ℕ → Call → Option ℕ → Option ℕ
+ready_pc_by thread (Readies t pc) before = if t.0 == thread then Some pc else before
+ready_pc_by thread (Sees x) before = before
+ready_pc_by thread (Writes head rows) before = before
 
-abbrev pub readied_after : ℕ → Option ℕ → List Call → Option ℕ
-readied_after thread before [] = before
-readied_after thread before (c ∷ cs) = readied_after thread (readied_by thread c before) cs
+abbrev pub ready_pc_after : ℕ → Option ℕ → List Call → Option ℕ
+ready_pc_after thread before [] = before
+ready_pc_after thread before (c ∷ cs) = ready_pc_after thread (ready_pc_by thread c before) cs
 
-abbrev pub readied : ℕ → List Call → Option ℕ
-readied thread cs = readied_after thread None cs
+abbrev pub ready_pc : ℕ → List Call → Option ℕ
+ready_pc thread cs = ready_pc_after thread None cs
 
 -- A call as it may follow others. Up to its first step a thread is ready at one pc. A step stands right after its
 -- thread was ready at its pc. A part is of a thread that has made a step, and its rows' functions and files are those
 -- of the map.
 abbrev pub Fits : SymbolMap → List Call → Call → Type 0
 Fits syms earlier (Readies thread pc) =
-    own thread.0 (steps_in earlier) ≡ [] → IfSome (readied thread.0 earlier) (λ before. before ≡ pc)
+    steps_of_thread thread.0 (steps_in earlier) ≡ [] → IfSome (ready_pc thread.0 earlier) (λ before. before ≡ pc)
 Fits syms earlier (Sees x) =
     (last_of earlier ≡ Some (Readies (event_of x).thread (event_of x).done.pc)) × IsOrderly syms (steps_in earlier) x
-Fits syms earlier (Writes head rows) = (0 < length (own head.thread.0 (steps_in earlier))) × AreKnown syms rows
+Fits syms earlier (Writes head rows) = (0 < length (steps_of_thread head.thread.0 (steps_in earlier))) × AreKnown syms rows
 
 -- each call fits those before it
 abbrev pub FitAll : SymbolMap → List Call → List Call → Type 0
 FitAll syms earlier [] = Unit {0}
 FitAll syms earlier (c ∷ cs) = Fits syms earlier c × FitAll syms (earlier ++ c ∷ []) cs
 
-abbrev pub Watched : SymbolMap → List Call → Type 0
-Watched syms cs = FitAll syms [] cs
+abbrev pub AreWatched : SymbolMap → List Call → Type 0
+AreWatched syms cs = FitAll syms [] cs

@@ -19,7 +19,7 @@ pub record Meaning (W : Type 0) : Type 0 where
 -- the state after a call
 abbrev pub after_call : {W : Type 0} → Meaning W → SymbolMap → W → Call → W
 after_call meaning syms w (Readies thread pc) = meaning.after_ready w thread pc syms
-after_call meaning syms w (Sees x) = meaning.after_seen w x.seen.event x.seen.cost x.wait x.woken syms
+after_call meaning syms w (Sees x) = meaning.after_seen w x.on_stack.event x.on_stack.cost x.wait x.woken syms
 after_call meaning syms w (Writes head rows) = meaning.after_part w head rows syms
 
 -- the state after calls, one after another
@@ -43,7 +43,7 @@ puts meaning syms base w (c ∷ cs) =
 abbrev pub Can : {W : Type 0} → (W → Event → List ℕ → Option ℕ → List ThreadNo → SymbolMap → Type 0)
     → (W → PartHead → Listed → SymbolMap → Type 0) → SymbolMap → W → Call → Type 0
 Can see write syms w (Readies thread pc) = Unit {0}
-Can see write syms w (Sees x) = see w x.seen.event x.seen.cost x.wait x.woken syms
+Can see write syms w (Sees x) = see w x.on_stack.event x.on_stack.cost x.wait x.woken syms
 Can see write syms w (Writes head rows) = write w head rows syms
 
 -- Once a thread is ready there is room for a step of it, and no step is told where there is none.

@@ -2,9 +2,9 @@
 
 ghost use Rattle.std.specs.Prelude.{◌≡◌, ◌<◌, ◌≤◌, ◌+◌, ◌%◌, ℕ, IfOk, IfSome, IsTrue, None, Some, is_some, option_map};
 ghost use Rattle.std.specs.Prelude.{true};
-ghost use Rattle.shadow_stack.specs.Traces.{Seen};
+ghost use Rattle.shadow_stack.specs.Traces.{EventOnStack};
 ghost use Rattle.sym_map.specs.SymbolMap.{SymbolMap};
-ghost use Rattle.part_dump.specs.Cuts.{Asked, cut_after, every_cut};
+ghost use Rattle.part_dump.specs.Cuts.{DumpPoints, cut_after, every_cut};
 ghost use Rattle.part_dump.specs.Rules.{AreNamed, IsNotedOf, IsRuleOf, after_due, before_due, due_after};
 
 use byte_text::{OutOfMemory, Text};
@@ -39,7 +39,7 @@ impl Model for DumpRule {
     ghost Value = { Rule };
 
     ghost view = { λ r. record {
-      asked = record { every = r.every; before = r.before.name; after = r.after.name };
+      dump_points = record { every = r.every; before = r.before.name; after = r.after.name };
       before = r.before.functions;
       after = r.after.functions;
     } };
@@ -105,8 +105,8 @@ impl DumpRule {
     /// How many steps may follow so many before a cut stands for their number: after the next one it does.
     #[inline(always)]
     pub fn steps_to_cut(&self, steps: u64) -> u64
-        ensures none { (n : ℕ) → steps < n → n ≤ steps + result → every_cut self.now.asked.every n ≡ None }
-        ensures next { IfSome self.now.asked.every (λ every. (steps + result + 1) % every ≡ 0) }
+        ensures none { (n : ℕ) → steps < n → n ≤ steps + result → every_cut self.now.dump_points.every n ≡ None }
+        ensures next { IfSome self.now.dump_points.every (λ every. (steps + result + 1) % every ≡ 0) }
     {
         match self.every {
             Some(every) => every - 1 - steps % every,
@@ -126,7 +126,7 @@ impl DumpRule {
     #[inline(always)]
     pub fn due(&self, steps: u64, noted: &Noted) -> bool
         ensures due { result ≡ is_some (due_after self.now steps noted.now) }
-        ensures cut { (syms : SymbolMap) (asked : Asked) (x : Seen) → IsRuleOf syms asked self.now
+        ensures cut { (syms : SymbolMap) (asked : DumpPoints) (x : EventOnStack) → IsRuleOf syms asked self.now
             → IsNotedOf syms self.now.after x noted.now → result ≡ is_some (cut_after syms asked steps x) }
     {
         if self.idle {
@@ -134,14 +134,14 @@ impl DumpRule {
         }
         // A copy of its own, so that what was noted needs no place in memory where nothing was asked for.
         let noted = *noted;
-        self.is_due(steps, &noted)
+        self.due_cold(steps, &noted)
     }
 
     /// The trigger of a cut that is due.
     pub fn trigger(&self, steps: u64, noted: &Noted) -> Result<Trigger, OutOfMemory>
         requires { IsTrue (is_some (due_after self.now steps noted.now)) }
         ensures due { IfOk result (λ trigger. due_after self.now steps noted.now ≡ Some trigger) }
-        ensures cut { IfOk result (λ trigger. (syms : SymbolMap) (asked : Asked) (x : Seen)
+        ensures cut { IfOk result (λ trigger. (syms : SymbolMap) (asked : DumpPoints) (x : EventOnStack)
             → IsRuleOf syms asked self.now
             → IsNotedOf syms self.now.after x noted.now → cut_after syms asked steps x ≡ Some trigger) }
     {
@@ -151,7 +151,7 @@ impl DumpRule {
 
     /// The same where something was asked for.
     #[inline(never)]
-    fn is_due(&self, steps: u64, noted: &Noted) -> bool
+    fn due_cold(&self, steps: u64, noted: &Noted) -> bool
         ensures { result ≡ is_some (due_after self.now steps noted.now) }
     {
         self.every_due(steps).is_some()
@@ -178,7 +178,7 @@ impl DumpRule {
 
     /// How many steps there are between cuts, where one stands after so many.
     fn every_due(&self, steps: u64) -> Option<u64>
-        ensures { option_map (λ every. Trigger.Every every) result ≡ every_cut self.now.asked.every steps }
+        ensures { option_map (λ every. Trigger.Every every) result ≡ every_cut self.now.dump_points.every steps }
     {
         let every = self.every?;
         if steps % every == 0 {
@@ -191,7 +191,7 @@ impl DumpRule {
     /// The name at which a cut stands before a function, where such a one was entered.
     fn before_due(&self, noted: &Noted) -> Option<&Text>
         ensures { option_map (λ name. Trigger.Before name.now) result
-            ≡ before_due self.now noted.now.pushed self.now.asked.before }
+            ≡ before_due self.now noted.now.pushed self.now.dump_points.before }
     {
         let name = self.before.name.as_ref()?;
         let pushed = noted.pushed?;
@@ -204,7 +204,7 @@ impl DumpRule {
 
     /// The name at which a cut stands after a function, where such a one was left.
     fn after_due(&self, noted: &Noted) -> Option<&Text>
-        ensures { option_map (λ name. Trigger.After name.now) result ≡ after_due noted.now.left self.now.asked.after }
+        ensures { option_map (λ name. Trigger.After name.now) result ≡ after_due noted.now.left self.now.dump_points.after }
     {
         let name = self.after.name.as_ref()?;
         if noted.left { Some(name) } else { None }

@@ -7,7 +7,7 @@ ghost use Rattle.arc_costs.specs.Contents.{Listed};
 ghost use Rattle.sym_map.specs.SymbolMap.{SymbolMap};
 ghost use Rattle.cg_format.specs.declared.head.PartHead.{PartHead as Head};
 ghost use Rattle.part_dump.specs.Calls.{Call};
-ghost use Rattle.part_dump.specs.Watched.{Watched};
+ghost use Rattle.part_dump.specs.Watched.{AreWatched};
 ghost use Rattle.part_dump.specs.Watching.{Can, KeepsRoom, Meaning, after_calls};
 
 use arc_costs::TableRows;
@@ -68,5 +68,5 @@ pub trait Watch {
 
     /// After each watched run from a fresh state, a call that goes on with it may be made.
     ghost lasts: { (syms : SymbolMap) (first : Self) (calls : List Call) (call : Call) → fresh first syms
-        → Watched syms (calls ++ call ∷ []) → Can can_see can_write syms (after_calls meaning syms first calls) call };
+        → AreWatched syms (calls ++ call ∷ []) → Can can_see can_write syms (after_calls meaning syms first calls) call };
 }

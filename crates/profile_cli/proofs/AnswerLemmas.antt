@@ -5,12 +5,12 @@ use Rattle.outside.specs.Files.{Rose}
 use Rattle.outside.specs.Outside.{Outside, Output}
 use Rattle.elf_read.specs.Image.{Image}
 use Rattle.sym_map.specs.SymbolMap.{SymbolMap}
-use Rattle.profile_run.specs.Guest.{Guest}
+use Rattle.profile_run.specs.Program.{Program}
 use Rattle.profile_run.specs.Parts.{Writing}
 use Rattle.profile_run.specs.Runs.{Runs}
 use Rattle.profile_run.specs.declared.run_fault.RunFault.{RunFault}
 use Rattle.profile_run.specs.declared.run_fault.RunFault.TheVariants as fault
-use Rattle.command_words.specs.Asked.{Job}
+use Rattle.command_words.specs.Request.{Job}
 use Rattle.command_status.specs.declared.status.Status.TheVariants.{OutFault, OutOfMemory}
 use Rattle.command_status.specs.declared.status.Status.TheVariants as wanted
 use Rattle.command_steps.specs.Certain.{IsCalm}
@@ -20,7 +20,7 @@ use Rattle.profile_cli.proofs.LoadLemmas.{many_arguments, many_pages}
 use Rattle.byte_text.specs.Memory.{memory}
 
 -- where no put and no write failed, a guest that fits is refused for want of memory alone
-pub only_wants : (parts : Guest → Writing) (old mid : Outside) (job : Job) (image : Image) (input : List ℕ)
+pub only_wants : (parts : Program → Writing) (old mid : Outside) (job : Job) (image : Image) (input : List ℕ)
     (syms : SymbolMap) → arguments_fault job.args ≡ None → pages_fault image ≡ None → IsCalm old mid
     → (refused : RunFault) (output : Output)
     → Runs (parts (guest_of job image input syms)) (guest_of job image input syms) old (Err refused) output mid

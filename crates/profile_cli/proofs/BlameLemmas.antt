@@ -9,7 +9,7 @@ use Rattle.event_costs.specs.declared.outcome.End.TheVariants as end
 use Rattle.outside.specs.Load.{Load}
 use Rattle.outside.specs.Outside.{Log, done_then, nothing_done, puts_of}
 use Rattle.std.proofs.lemmas.Bool.{eq-eqb}
-use Rattle.outside.specs.Told.{AreRefusedOf, AreWritesOf, AreWrittenTo, Call, Loaded, OnAnswer, Put, Wrote}
+use Rattle.outside.specs.Journal.{AreRefusedOf, AreWritesOf, AreWrittenTo, Call, Loaded, OnAnswer, Put, Wrote}
 use Rattle.outside.specs.declared.folder.LoadError.TheVariants as load
 use Rattle.outside.specs.declared.folder.PutError.{PutError}
 use Rattle.outside.specs.declared.folder.PutError.TheVariants as put
@@ -27,12 +27,12 @@ use Rattle.cg_read.specs.declared.error.SumError.{SumError}
 use Rattle.cg_read.specs.declared.error.SumError.TheVariants as sum
 use Rattle.profile_files.specs.Calls.{IsAsked, HasFault, Reads}
 use Rattle.profile_files.specs.Reading as reading
-use Rattle.profile_files.specs.Wanted.{Wanted}
+use Rattle.profile_files.specs.WantedFile.{WantedFile}
 use Rattle.profile_files.specs.declared.fault.ReadFault.{ReadFault}
 use Rattle.profile_files.specs.declared.fault.ReadFault.TheVariants as read
-use Rattle.profile_run.specs.Guest.{Guest}
+use Rattle.profile_run.specs.Program.{Program}
 use Rattle.profile_run.specs.Parts.{Writing}
-use Rattle.profile_run.specs.Runs.{Does, Ended, HasFailedBehind}
+use Rattle.profile_run.specs.Runs.{Does, RunEnd, HasFailedBehind}
 use Rattle.profile_run.specs.Trace.{piece_to}
 use Rattle.profile_run.specs.declared.run_fault.RunFault.{RunFault}
 use Rattle.profile_run.specs.declared.run_fault.RunFault.TheVariants as fault
@@ -41,12 +41,12 @@ use Rattle.command_status.specs.Lines.{message_of}
 use Rattle.command_status.specs.Numbers.{is_finished}
 use Rattle.command_status.specs.declared.status.Status.{Status}
 use Rattle.command_status.specs.declared.status.Status.TheVariants as status
-use Rattle.command_words.specs.Asked as words
-use Rattle.command_words.specs.Asked.{Addresses, Asked, Contexts, Nothing, Waits, Watching}
+use Rattle.command_words.specs.Request as words
+use Rattle.command_words.specs.Request.{Addresses, Request, Contexts, Nothing, Waits, Watching}
 use Rattle.command_steps.specs.Annotate.{read_status, write_fault}
 use Rattle.profile_cli.specs.Blame.{EndsWith, IsToBlame, LastWrite}
 use Rattle.profile_cli.specs.Calls.{DoesAsked, MakesDemo, SumsUp, SumsUpIf}
-use Rattle.command_steps.specs.Stages.{met, AreWritesOrWants, Gives, Goes, Quiet, ReadsAll, Stops, Then, asking}
+use Rattle.command_steps.specs.Stages.{final_status, AreWritesOrWants, Gives, Goes, Quiet, ReadsAll, Stops, Then, asking}
 use Rattle.command_steps.specs.Stages.{read_as, writing}
 use Rattle.command_steps.specs.Summary.{MakesTotals, totals_fault}
 use Rattle.profile_cli.specs.Order.{elf_status, fault_status}
@@ -145,7 +145,7 @@ last_of : (error : WriteError) (pieces next : List (List ℕ)) (writes : List Wr
 last_of error pieces next writes are last =
     subst LastWrite (sym are.together) (last_behind are.before are.last last)
 
-failed_behind : (writing : Writing) (guest : Guest) (log : Log) → HasFailedBehind writing guest log
+failed_behind : (writing : Writing) (guest : Program) (log : Log) → HasFailedBehind writing guest log
     → LastWrite log.out ⊎ LastWrite log.err
 failed_behind writing guest log f = by f.to
   where
@@ -155,7 +155,7 @@ failed_behind writing guest log f = by f.to
     by (inr two) = inr (last_of _ _ _ log.err f.err (failed_to 2 f.piece f.last.output f.err.last f.is_piece two
         f.err.refused))
 
-stopped_run : (writing : Writing) (guest : Guest) (refused : RunFault) (log : Log)
+stopped_run : (writing : Writing) (guest : Program) (refused : RunFault) (log : Log)
     → Does writing guest (Err refused) log → IsToBlame (fault_status guest.options.base refused) log
 stopped_run writing guest fault.GuestFull log does = tt
 stopped_run writing guest (fault.ArgsTooLong len) log does = tt
@@ -191,7 +191,7 @@ refused_put name text (Ok done) = none_stops _
 refused_put name text (Err put.Failed) = some_stops _ _ (text, ([], refl))
 refused_put name text (Err (put.OutOfMemory _)) = some_stops _ _ tt
 
-waits_blame : (w : Watching) (guest : Guest) → Blames (PutsWaits w guest)
+waits_blame : (w : Watching) (guest : Program) → Blames (PutsWaits w guest)
 waits_blame Nothing guest = gives_such IsToBlame blames tt
 waits_blame (Contexts callers) guest = gives_such IsToBlame blames tt
 waits_blame Addresses guest = gives_such IsToBlame blames tt
@@ -207,13 +207,13 @@ waits_blame Waits guest = by
 
 -- a file that isn't read
 refused_lines : (name : List ℕ) (bad : Option FormatError) (behind : Option ReadFault) (f : ReadFault) (log : Log)
-    → or_else (option_map (reading.refused name) bad) behind ≡ Some f
+    → or_else (option_map (reading.refusal_of name) bad) behind ≡ Some f
     → ((g : ReadFault) → behind ≡ Some g → IsToBlame (read_status g) log) → IsToBlame (read_status f) log
 refused_lines name None behind f log is more = more f is
 refused_lines name (Some bad) behind f log is more =
     subst (λ g. IsToBlame (read_status g) log) (same_Some _ _ is) (by bad)
   where
-    by : (bad : FormatError) → IsToBlame (read_status (reading.refused name bad)) log
+    by : (bad : FormatError) → IsToBlame (read_status (reading.refusal_of name bad)) log
     by (format.OutOfMemory _) = tt
     by _ = tt
 
@@ -222,7 +222,7 @@ other_events : (name : List ℕ) (agreed : Bool) (log : Log) (g : ReadFault)
 other_events name true log g is = absurd (cc)
 other_events name false log g is = subst (λ h. IsToBlame (read_status h) log) (same_Some _ _ is) tt
 
-refused_file : (wanted : Wanted) (before : List (List ℕ)) (found : Load) (f : ReadFault)
+refused_file : (wanted : WantedFile) (before : List (List ℕ)) (found : Load) (f : ReadFault)
     → reading.file_fault wanted before found ≡ Some f
     → IsToBlame (read_status f) (asking (Loaded wanted.name wanted.limit found ∷ []))
 refused_file wanted before (Ok bytes) f is =
@@ -243,7 +243,7 @@ abbrev fault_in : {X : Type 0} → Result X ReadFault → ReadFault
 fault_in (Ok x) = read.OutOfMemory memory
 fault_in (Err f) = f
 
-reads_blame : (first : Contents) (files : List Wanted) (calls : List Call) (f : ReadFault)
+reads_blame : (first : Contents) (files : List WantedFile) (calls : List Call) (f : ReadFault)
     → Reads first files calls (Err f) → IsToBlame (read_status f) (asking calls)
 reads_blame first [] calls f (none, inl ok) = absurd (cc ok)
 reads_blame first [] calls f (none, inr wants) =
@@ -269,7 +269,7 @@ reads_blame first (wanted ∷ files) calls f (inr (next, later, goes, more)) =
     (to_blame (read_status f) (asking (Loaded wanted.name wanted.limit (Ok goes.bytes) ∷ [])) (asking later)
     (reads_blame next files later f more))
 
-read_blames : (first : Contents) (files : List Wanted) → Blames (ReadsAll first files)
+read_blames : (first : Contents) (files : List WantedFile) → Blames (ReadsAll first files)
 read_blames first files log s all = by all.found all.reads all.result_is
   where
     by : (found : Result Contents ReadFault) → Reads first files all.calls found → Err s ≡ read_as found
@@ -288,7 +288,7 @@ no_totals p log s makes = by makes.comes.0 makes.comes.2
     by (sum.SumLimit event) = some_stops (λ t. IsToBlame t log) _ tt s
     by (sum.OutOfMemory _) = some_stops (λ t. IsToBlame t log) _ tt s
 
-sums_blame : (size len code : ℕ) (run : Ended) → Blames (SumsUp size len code run)
+sums_blame : (size len code : ℕ) (run : RunEnd) → Blames (SumsUp size len code run)
 sums_blame size len code run =
     then_such IsToBlame blames _ _ (read_blames _ _) (λ p.
     then_such IsToBlame blames _ _ (no_totals p) (λ totals. writes_such IsToBlame blames _))
@@ -297,17 +297,17 @@ sums_blame size len code run =
 
 -- what it comes to blames who was at fault
 abbrev pub MeetsBlame : (Log → Result Status Status → Type 0) → Type 0
-MeetsBlame Stage = (log : Log) (r : Result Status Status) → Stage log r → IsToBlame (met r) log
+MeetsBlame Stage = (log : Log) (r : Result Status Status) → Stage log r → IsToBlame (final_status r) log
 
 then_met : {A : Type 0} (First : Log → Result A Status → Type 0) (Next : A → Log → Result Status Status → Type 0)
     → Blames First → ((came : A) → MeetsBlame (Next came)) → MeetsBlame (Then First Next)
 then_met First Next first next log r (Stops t is stops) =
-    subst (λ q. IsToBlame (met q) log) (sym is) (first log t stops)
+    subst (λ q. IsToBlame (final_status q) log) (sym is) (first log t stops)
 then_met First Next first next log r (Goes came before later is ran goes) =
-    subst (IsToBlame (met r)) (sym is) (to_blame (met r) before later (next came later r goes))
+    subst (IsToBlame (final_status r)) (sym is) (to_blame (final_status r) before later (next came later r goes))
 
 gives_met : (s : Status) → ((log : Log) → IsToBlame s log) → MeetsBlame (Gives s)
-gives_met s none log r given = subst (λ q. IsToBlame (met q) log) (sym given.comes) (none log)
+gives_met s none log r given = subst (λ q. IsToBlame (final_status q) log) (sym given.comes) (none log)
 
 end_met : (stop : End) → MeetsBlame (Gives (end_status stop))
 end_met stop = gives_met (end_status stop) (by stop)
@@ -320,7 +320,7 @@ end_met stop = gives_met (end_status stop) (by stop)
         exits (suc code) log = tt
     by _ log = tt
 
-demo_met : (size len : ℕ) (run : Ended) (stop : End) → MeetsBlame (SumsUpIf size len run stop)
+demo_met : (size len : ℕ) (run : RunEnd) (stop : End) → MeetsBlame (SumsUpIf size len run stop)
 demo_met size len run (end.Exited code) =
     then_met _ _ (sums_blame size len code run) (λ summed. gives_met status.Done (λ log. tt))
 demo_met size len run stop = end_met stop
@@ -328,7 +328,7 @@ demo_met size len run stop = end_met stop
 unmade_demo : (size : ℕ) → Blames (Quiet (MakesDemo size))
 unmade_demo size log s makes = wants_blame s log makes.comes
 
-pub asked_blames : (asked : Asked) → MeetsBlame (DoesAsked asked)
+pub asked_blames : (asked : Request) → MeetsBlame (DoesAsked asked)
 asked_blames (words.Run job) =
     then_met _ _ (job_such IsToBlame blames _ job) (λ ran.
     then_met _ _ (waits_blame job.watching ran.0) (λ put. end_met ran.1.end))

@@ -10,7 +10,7 @@ use Rattle.byte_text.specs.Memory.{memory}
 use Rattle.event_costs.proofs.RunLemmas.{IsTrace-same}
 use Rattle.outside.specs.Load.{Load}
 use Rattle.outside.specs.Outside.{Log, Named, Outside, done_then, nothing_done, puts_of}
-use Rattle.outside.specs.Told.{AreWritesOf, AreWritten, Call, Loaded, Put, Wrote}
+use Rattle.outside.specs.Journal.{AreWritesOf, AreWritten, Call, Loaded, Put, Wrote}
 use Rattle.outside.specs.declared.folder.LoadError.TheVariants as load
 use Rattle.outside.specs.declared.sink.WriteError.{WriteError}
 use Rattle.outside.specs.declared.sink.WriteError.TheVariants as write
@@ -30,14 +30,14 @@ use Rattle.source_files.specs.Sources.{loads_of}
 use Rattle.profile_files.specs.Calls.{IsAsked, HasFault, Reads}
 use Rattle.profile_files.specs.Joined.{Joins, no_rows}
 use Rattle.profile_files.specs.Reading as reading
-use Rattle.profile_files.specs.Wanted.{Wanted}
+use Rattle.profile_files.specs.WantedFile.{WantedFile}
 use Rattle.profile_files.specs.declared.fault.ReadFault.{ReadFault}
 use Rattle.profile_files.specs.declared.fault.ReadFault.TheVariants as read
 use Rattle.profile_files.proofs.ReadingLemmas.{events_read}
-use Rattle.profile_run.specs.Guest.{CanRun, Guest, head_of_run}
+use Rattle.profile_run.specs.Program.{CanRun, Program, head_of_run}
 use Rattle.profile_run.specs.Parts.{ArePartsOf, Writing}
-use Rattle.profile_run.specs.Runs.{Does, Ended}
-use Rattle.profile_run.specs.Trace.{IsTraceOf, Makes, Stop, Taken, going, pieces, start, steps_of}
+use Rattle.profile_run.specs.Runs.{Does, RunEnd}
+use Rattle.profile_run.specs.Trace.{IsTraceOf, Makes, Stop, RunStep, next_step, pieces, start, steps_of}
 use Rattle.profile_run.specs.declared.run_fault.RunFault.{RunFault}
 use Rattle.reads_back.specs.Joined.{events_in}
 use Rattle.reads_back.proofs.AllPartsLemmas.{IsPartText, events_agree}
@@ -52,12 +52,12 @@ use Rattle.command_status.specs.Lines.{message_of}
 use Rattle.command_status.specs.Numbers.{is_finished, is_short}
 use Rattle.command_status.specs.declared.status.Status.{Status}
 use Rattle.command_status.specs.declared.status.Status.TheVariants.{OutFault, OutOfMemory}
-use Rattle.command_words.specs.Asked.{Asked, Job, View}
+use Rattle.command_words.specs.Request.{Request, Job, View}
 use Rattle.command_words.specs.Within.{IsJob, IsOfReport, IsWithin}
 use Rattle.command_steps.specs.Annotate.{IsSortPlace, read_status, report_options, write_fault}
 use Rattle.profile_cli.specs.ByCalls.{AreShown, GivesBack, IsFed, IsHeadlineByCalls, IsReportByCalls, loads_back}
-use Rattle.profile_cli.specs.Calls.{DoesAsked, DoesReport, IsTold}
-use Rattle.command_steps.specs.Stages.{met, AreWritesOrWants, Gives, Goes, LoadsIf, LoadsTexts, ReadsAll, Reports}
+use Rattle.profile_cli.specs.Calls.{DoesAsked, DoesReport, MakesCalls}
+use Rattle.command_steps.specs.Stages.{final_status, AreWritesOrWants, Gives, Goes, LoadsIf, LoadsTexts, ReadsAll, Reports}
 use Rattle.command_steps.specs.Stages.{Stops, Then, asking, read_as}
 use Rattle.command_steps.specs.Loading.{input_limit}
 use Rattle.profile_cli.specs.Order.{program_limit}
@@ -155,7 +155,7 @@ stops_short head later names file calls fault named text back among (Ok bytes) (
 
     none : reading.file_fault (record { name = file.0; limit = length file.1 }) names (Ok bytes) ≡ None
     none =
-        (λ i. or_else (option_map (reading.refused file.0) ((ap first_bad_of here ∙ text.0) i))
+        (λ i. or_else (option_map (reading.refusal_of file.0) ((ap first_bad_of here ∙ text.0) i))
         (reading.events_fault file.0 (named i) ((ap reading.events_of here ∙ text.1) i)))
         ∙ ap (λ (b : Bool). if b then None else Some (read.EventsDiffer file.0)) (events_agree head)
 
@@ -212,11 +212,11 @@ shorts = record {
 -- ---- the run
 
 -- what a run did that came to this end
-record RunsOn (parts : Guest → Writing) (job : Job) (program input : List ℕ) (log : Log) (run : Ended) : Type 0 where
+record RunsOn (parts : Program → Writing) (job : Job) (program input : List ℕ) (log : Log) (run : RunEnd) : Type 0 where
   syms : SymbolMap
   symbols : IsMapOf (image_of program) syms
   sound : IsSound syms
-  trace : List Taken
+  trace : List RunStep
   stop : Stop
   is : IsTraceOf (guest_of job (image_of program) input syms) trace stop
   end : run.end ≡ stop.end
@@ -227,23 +227,23 @@ record RunsOn (parts : Guest → Writing) (job : Job) (program input : List ℕ)
   out : AreWritten (pieces 1 trace) log.out
   err : AreWritten (pieces 2 trace) log.err
 
-module _ (parts : Guest → Writing) (job : Job) (program input : List ℕ) (log : Log) (ran : Guest × Ended) where
-  abbrev guest_with : SymbolMap → Guest
+module _ (parts : Program → Writing) (job : Job) (program input : List ℕ) (log : Log) (ran : Program × RunEnd) where
+  abbrev guest_with : SymbolMap → Program
   guest_with syms = guest_of job (image_of program) input syms
 
   runs_on : stage.Runs parts job program input log (Ok ran) → RunsOn parts job program input log ran.1
   runs_on (inl wants) = absurd (cc wants.comes)
   runs_on (inr has) = by has.stop has.ended has.does has.comes
     where
-      by : (stop : Result Ended RunFault)
+      by : (stop : Result RunEnd RunFault)
           → IfOk stop (IsEndOf (parts (guest_with has.syms)) (guest_with has.syms))
           → Does (parts (guest_with has.syms)) (guest_with has.syms) stop log
           → ComesTo job.base (guest_with has.syms) stop (Ok ran) → RunsOn parts job program input log ran.1
       by (Err refused) ended does is = absurd is
       by (Ok run) ended does is =
-          let same = IsTrace-same (going (guest_with has.syms)) (start (guest_with has.syms)) ended.trace does.trace
+          let same = IsTrace-same (next_step (guest_with has.syms)) (start (guest_with has.syms)) ended.trace does.trace
           ended.stop does.stop ended.is does.is in
-          let came : ran.1 ≡ run = ap (λ (r : Guest × Ended). r.1) (in_ok ran (guest_with has.syms, run) is) in
+          let came : ran.1 ≡ run = ap (λ (r : Program × RunEnd). r.1) (in_ok ran (guest_with has.syms, run) is) in
           record {
             syms = has.syms;
             symbols = has.symbols;
@@ -251,8 +251,8 @@ module _ (parts : Guest → Writing) (job : Job) (program input : List ℕ) (log
             trace = does.trace;
             stop = does.stop;
             is = does.is;
-            end = ap (λ (r : Ended). r.end) came ∙ ended.end ∙ ap (λ (s : Stop). s.end) same.1;
-            listed = subst (λ (r : Ended). ArePartsOf job.base
+            end = ap (λ (r : RunEnd). r.end) came ∙ ended.end ∙ ap (λ (s : Stop). s.end) same.1;
+            listed = subst (λ (r : RunEnd). ArePartsOf job.base
                 ((parts (guest_with has.syms)).whole (steps_of does.trace) does.stop.tried) r.parts) (sym came)
                 (subst (λ (files : List Named). ArePartsOf job.base files run.parts)
                 (λ i. (parts (guest_with has.syms)).whole (steps_of (same.0 i)) (same.1 i).tried) ended.parts_are);
@@ -262,7 +262,7 @@ module _ (parts : Guest → Writing) (job : Job) (program input : List ℕ) (log
           }
 
 -- what was done up to its end
-record Began (parts : Guest → Writing) (job : Job) (log : Log) (run : Ended) : Type 0 where
+record Began (parts : Program → Writing) (job : Job) (log : Log) (run : RunEnd) : Type 0 where
   program : List ℕ
   accepted : refusal program ≡ None
   input : List ℕ
@@ -277,7 +277,7 @@ feeds : (name : Option (List ℕ)) (log : Log) (input : List ℕ) → LoadsIf na
 feeds None log input given = ([], (in_ok input [] given.comes, refl), given.nothing)
 feeds (Some name) log input loaded = (Loaded name input_limit (Ok input) ∷ [], refl, loaded)
 
-began : (parts : Guest → Writing) (job : Job) (log : Log) (ran : Guest × Ended)
+began : (parts : Program → Writing) (job : Job) (log : Log) (ran : Program × RunEnd)
     → LoadsAndRuns parts job log (Ok ran) → Began parts job log ran.1
 began parts job log ran (Stops s is stops) = absurd (cc is)
 began parts job log ran (Goes program first rest is loaded (Stops s stop stops)) = absurd (cc stop)
@@ -305,7 +305,7 @@ record IsReadBack (first : Contents) (files : List Named) (log : Log) (p : Conte
   profile : IsProfile p
   joins : Joins first (texts_of_files files) p
 
-module _ (first : Contents) (files : List Named) (wanted : List Wanted) (listed : wanted ≡ with_their_lengths files)
+module _ (first : Contents) (files : List Named) (wanted : List WantedFile) (listed : wanted ≡ with_their_lengths files)
     (later : List Call) (back : AllByRecursion (IsBack later) files) (log : Log) (among : AreAmong log.calls later) where
   asked_among : (calls : List Call) → log ≡ asking calls → AreAmong calls later
   asked_among calls is = subst (λ (l : Log). AreAmong l.calls later) is among
@@ -350,7 +350,7 @@ record HasShown (view : View) (p : Contents) (log : Log) : Type 0 where
   text : List ℕ
   writes : List Wrote
   sorted : IsSortPlace view.sort p sort
-  shown : AreShown view.auto p texts
+  files : AreShown view.auto p texts
   report : IsReportOf p (report_options view sort) texts text
   written : AreWritesOf {U = Unit {0}} text writes (Ok tt)
   whole : log ≡ log_of (loads_of texts) writes
@@ -385,7 +385,7 @@ has_shown view p log done
       text = text;
       writes = writes.writes;
       sorted = settled.comes.1;
-      shown = loads.0;
+      files = loads.0;
       report = subst (λ (o : ReportOptions). IsReportOf p o texts text) settled.comes.2 made.comes.1;
       written = whole_write text writes.writes writes.answer writes.are writes.gate;
       whole = is ∙ (λ i. done_then (settled.nothing i) ((next ∙ (λ j. done_then (loads.1 j)
@@ -414,9 +414,9 @@ IsReported job view work found =
 
 -- behind a run that came to its end
 module _ (job : Job) (view : View) (within : IsJob job) (own : IsOfReport job.watching) (work before later : Log)
-    (run : Ended) (b : Began (parts_asked job.watching) job before run) (is : work ≡ done_then before later)
+    (run : RunEnd) (b : Began (parts_asked job.watching) job before run) (is : work ≡ done_then before later)
     (gives : GivesBack (work.calls ++ [])) where
-  abbrev guest : Guest
+  abbrev guest : Program
   guest = guest_of job (image_of b.program) b.input b.on.syms
 
   abbrev put : List Named
@@ -491,8 +491,8 @@ module _ (job : Job) (view : View) (within : IsJob job) (own : IsOfReport job.wa
           is = b.on.is;
         };
         status_is = same ∙ found_is ∙ ap end_status b.on.end;
-        shown = report_on guest can b.on.trace makes view p own_is s.sort s.texts s.text s.report s.sorted;
-        sources = shown_over view.auto p own_is.profile s.texts own_is.files s.shown;
+        report_on = report_on guest can b.on.trace makes view p own_is s.sort s.texts s.text s.report s.sorted;
+        sources = shown_over view.auto p own_is.profile s.texts own_is.files s.files;
         calls = append-nil work.calls ∙ put_calls
             ∙ ap (λ (l : Log). opening ++ puts_of put ++ l.calls) later_is
             ∙ sym (append_assoc (opening ++ puts_of put) (loads_back put) (loads_of s.texts))
@@ -526,20 +526,20 @@ module _ (job : Job) (view : View) (within : IsJob job) (own : IsOfReport job.wa
 
     shown_on : (comes : Result Status Status)
         → Then (Reports view p) (λ shown. Gives (end_status run.end)) rest comes
-        → IsShort (met comes) ⊎ IsReported job view work (met comes)
+        → IsShort (final_status comes) ⊎ IsReported job view work (final_status comes)
     shown_on comes (Stops s stop stops) =
-        inl (subst (λ r. IsShort (met r)) (sym stop)
+        inl (subst (λ r. IsShort (final_status r)) (sym stop)
         (report_such Short shorts view p (λ position log over. absurd (none_too_large position over)) rest s stops))
     shown_on comes (Goes done showing last show_then shows given) =
-        inr (worked showing last show_then (has_shown view p showing done shows) given.nothing (met comes)
-        (ap met given.comes))
+        inr (worked showing last show_then (has_shown view p showing done shows) given.nothing (final_status comes)
+        (ap final_status given.comes))
 
   read_on : (comes : Result Status Status)
       → Then (ReadsAll first (parts_wanted job.base run.parts)) (λ p.
       Then (Reports view p) (λ shown. Gives (end_status run.end))) later comes
-      → IsShort (met comes) ⊎ IsReported job view work (met comes)
+      → IsShort (final_status comes) ⊎ IsReported job view work (final_status comes)
   read_on comes (Stops s stop stops) =
-      inl (subst (λ r. IsShort (met r)) (sym stop)
+      inl (subst (λ r. IsShort (final_status r)) (sym stop)
       (read_short first put (parts_wanted job.base run.parts) listed later.calls back later (λ call has. has)
       (head_of_run guest) refl
       ((own_again job.watching own).texts guest can entries b.on.trace makes b.on.stop) s stops))
@@ -548,11 +548,11 @@ module _ (job : Job) (view : View) (within : IsJob job) (own : IsOfReport job.wa
 work_on : (job : Job) (view : View) → IsJob job → IsOfReport job.watching → (work : Log)
     (comes : Result Status Status)
     → DoesReport job view work comes ⊎ ((work ≡ nothing_done) × (comes ≡ Err (OutOfMemory memory)))
-    → GivesBack (work.calls ++ []) → IsShort (met comes) ⊎ IsReported job view work (met comes)
+    → GivesBack (work.calls ++ []) → IsShort (final_status comes) ⊎ IsReported job view work (final_status comes)
 work_on job view within own work comes (inr (none, wants)) gives =
-    inl (subst (λ r. IsShort (met r)) (sym wants) refl)
+    inl (subst (λ r. IsShort (final_status r)) (sym wants) refl)
 work_on job view within own work comes (inl (Stops s stop stops)) gives =
-    inl (subst (λ r. IsShort (met r)) (sym stop) (job_such Short shorts (parts_asked job.watching) job work s stops))
+    inl (subst (λ r. IsShort (final_status r)) (sym stop) (job_such Short shorts (parts_asked job.watching) job work s stops))
 work_on job view within own work comes (inl (Goes ran before later is runs reads)) gives =
     read_on job view within own work before later ran.1 (began (parts_asked job.watching) job before ran runs) is gives
     comes reads
@@ -579,13 +579,13 @@ by_calls job view found status work line answer are is long (inl short) =
 by_calls job view found status work line answer are is long (inr (finished, reports)) =
     let said = line_whole found status line answer are is finished long in reports status line said.0 said.1
 
-pub IsHeadlineByCalls-told : (old new : Outside) (asked : Asked) (status : Status) → IsWithin asked
-    → IsTold old asked status new → IsHeadlineByCalls old asked status new
+pub IsHeadlineByCalls-told : (old new : Outside) (asked : Request) (status : Status) → IsWithin asked
+    → MakesCalls old asked status new → IsHeadlineByCalls old asked status new
 IsHeadlineByCalls-told old new asked status within told = λ job view is long. (
   with_line told.work told.line,
   told.tells,
-  λ gives. by_calls job view (met told.comes) status told.work told.line told.answer told.writes told.status_is long
+  λ gives. by_calls job view (final_status told.comes) status told.work told.line told.answer told.writes told.status_is long
       (work_on job view (subst IsWithin is within).0 (subst IsWithin is within).3 told.work told.comes
-      (subst (λ (a : Asked). DoesAsked a told.work told.comes
+      (subst (λ (a : Request). DoesAsked a told.work told.comes
       ⊎ ((told.work ≡ nothing_done) × (told.comes ≡ Err (OutOfMemory memory)))) is told.does) gives),
 )

@@ -9,20 +9,20 @@ use Rattle.sym_map.specs.SymbolMap.{SymbolMap}
 use Rattle.demo_make.specs.Program.{IsFileOf, demo}
 use Rattle.profile_run.specs.Parts.{plain_parts}
 use Rattle.profile_run.specs.Runs.{Runs}
-use Rattle.profile_run.specs.Trace.{sent}
+use Rattle.profile_run.specs.Trace.{sent_bytes}
 use Rattle.profile_run.specs.declared.run_fault.RunFault.{RunFault}
 use Rattle.command_status.specs.Lines.{message_of}
 use Rattle.command_status.specs.declared.status.Status.{Status}
 use Rattle.command_status.specs.declared.status.Status.TheVariants.{OutOfMemory}
-use Rattle.command_words.specs.Asked.{Demo}
+use Rattle.command_words.specs.Request.{Demo}
 use Rattle.command_steps.specs.Certain.{IsCalm}
 use Rattle.profile_cli.specs.Course.{Course}
 use Rattle.profile_cli.specs.Demo.{demo_guest, demo_job}
 use Rattle.profile_cli.specs.ExactDemo.{IsExactDemo}
-use Rattle.command_steps.specs.Gates.{Outcome, check, outcome, passed}
+use Rattle.command_steps.specs.Gates.{Outcome, check, outcome, gates_outcome}
 use Rattle.profile_cli.specs.Order.{behind_demo, fault_status, run_gate, work}
 use Rattle.profile_cli.specs.Reply.{Replies}
-use Rattle.command_steps.proofs.AnswerLemmas.{before_line, calm_before, never_wanting, said}
+use Rattle.command_steps.proofs.AnswerLemmas.{before_line, calm_before, never_wanting, line_is_written}
 use Rattle.profile_cli.proofs.AnswerLemmas.{only_wants}
 use Rattle.profile_cli.proofs.DemoPages.{demo_arguments, demo_pages}
 use Rattle.profile_cli.proofs.PastDemoLemmas.{demo_on}
@@ -32,11 +32,11 @@ use Rattle.byte_text.specs.Memory.{memory}
 -- what the work comes to where the words were read
 by_words : (size : ℕ) (met : Course) → met.words_read ≡ true
     → outcome (work (Demo size) met)
-    ≡ passed (check None ∷ run_gate demo_job met.ran ∷ (behind_demo size met met.ran).gates)
-    (behind_demo size met met.ran).last
+    ≡ gates_outcome (check None ∷ run_gate demo_job met.run ∷ (behind_demo size met met.run).gates)
+    (behind_demo size met met.run).last
 by_words size met read =
-    ap (λ (b : Bool). passed (check (if b then None else Some (OutOfMemory memory))
-    ∷ run_gate demo_job met.ran ∷ (behind_demo size met met.ran).gates) (behind_demo size met met.ran).last) read
+    ap (λ (b : Bool). gates_outcome (check (if b then None else Some (OutOfMemory memory))
+    ∷ run_gate demo_job met.run ∷ (behind_demo size met met.run).gates) (behind_demo size met met.run).last) read
 
 module _ (old new : Outside) (files : Files) (size : ℕ) (status : Status) (reply : Replies old (Demo size) status new)
     (read : reply.works.course.words_read ≡ true) (told : old.files ≡ Some files)
@@ -70,8 +70,8 @@ module _ (old new : Outside) (files : Files) (size : ℕ) (status : Status) (rep
     files = exact.files;
     out = exact.out;
     err = line.1 ∙ ap (λ t. taken_more t (message_of reply.found)) exact.err
-        ∙ more_taken old.err.taken (sent 2 exact.run.trace ++ []) (message_of reply.found)
-        ∙ (λ i. taken_more old.err.taken ((append-nil (sent 2 exact.run.trace) i) ++ message_of ((sym line.0) i)));
+        ∙ more_taken old.err.taken (sent_bytes 2 exact.run.trace ++ []) (message_of reply.found)
+        ∙ (λ i. taken_more old.err.taken ((append-nil (sent_bytes 2 exact.run.trace) i) ++ message_of ((sym line.0) i)));
   }
 
   pub certain_demo : IsExactDemo old size status (message_of status) new
@@ -80,12 +80,12 @@ module _ (old new : Outside) (files : Files) (size : ℕ) (status : Status) (rep
       (λ rose. absurd (still.out rose)) met fits reply.works.met
       (record {
         status_is = reply.works.status_is ∙ ap (λ (o : Outcome). o.status) comes;
-        left = subst (λ (o : Outcome). Leaves old o.output mid) comes reply.works.leaves;
+        leaves = subst (λ (o : Outcome). Leaves old o.output mid) comes reply.works.leaves;
       }))
     where
       comes : outcome (work (Demo size) met)
-          ≡ passed (check None ∷ run_gate demo_job met.ran ∷ (behind_demo size met met.ran).gates)
-          (behind_demo size met met.ran).last
+          ≡ gates_outcome (check None ∷ run_gate demo_job met.run ∷ (behind_demo size met met.run).gates)
+          (behind_demo size met met.run).last
       comes = by_words size met read
 
       by : (reply.found ≡ (OutOfMemory memory)) ⊎ IsExactDemo old size reply.found [] mid
@@ -93,6 +93,6 @@ module _ (old new : Outside) (files : Files) (size : ℕ) (status : Status) (rep
       by (inl none) = absurd (never_wanting reply.found status reply.says.answer known reply.says.status_is none)
       by (inr exact) =
           with_line exact
-          (said reply.found status reply.says.answer reply.err new.err (message_of reply.found)
+          (line_is_written reply.found status reply.says.answer reply.err new.err (message_of reply.found)
           (λ rose. still.err (rose_from old.err.faults reply.err.faults new.err.faults reply.never_falls rose)) known
           reply.says.status_is reply.says.written)

@@ -13,25 +13,25 @@ use Rattle.elf_read.specs.Image.{image_of}
 use Rattle.elf_read.specs.Refusal.{refusal}
 use Rattle.elf_read.specs.declared.error.ElfError.{ElfError}
 use Rattle.elf_read.specs.declared.error.ElfError.TheVariants as elf
-use Rattle.profile_run.specs.Guest.{Guest}
+use Rattle.profile_run.specs.Program.{Program}
 use Rattle.profile_run.specs.Parts.{Writing}
 use Rattle.command_status.specs.Lines.{message_of}
 use Rattle.command_status.specs.Numbers.{is_finished}
 use Rattle.command_status.specs.declared.status.Status.{Status}
 use Rattle.command_status.specs.declared.status.Status.TheVariants.{Done, OutOfMemory, Usage}
 use Rattle.command_status.specs.declared.status.Status.TheVariants as wanted
-use Rattle.command_words.specs.Asked as words
-use Rattle.command_words.specs.Asked.{Asked, Job, View}
+use Rattle.command_words.specs.Request as words
+use Rattle.command_words.specs.Request.{Request, Job, View}
 use Rattle.command_words.specs.Within.{IsJob, IsOfReport, IsWithin}
-use Rattle.profile_files.specs.Loads.{held}
+use Rattle.profile_files.specs.Loads.{faultless_load}
 use Rattle.outside.specs.Load.{Load, bytes_of}
 use Rattle.profile_files.proofs.CompleteLemmas.{held_load}
 use Rattle.command_steps.specs.Annotate.{Annotates, annotating}
 use Rattle.command_steps.specs.Certain.{Decides, IsCalm}
-use Rattle.profile_cli.specs.Complete.{Ends, IsCertain, IsComplete, held_course, held_if}
+use Rattle.profile_cli.specs.Complete.{Ends, IsCertain, IsComplete, faultless_course, faultless_load_if}
 use Rattle.profile_cli.specs.Course.{Course, no_course}
 use Rattle.command_steps.specs.Loading.{IsLoadIf, input_fault, input_limit, load_fault}
-use Rattle.command_steps.specs.Gates.{Gate, Outcome, check, first_stop, or_next, outcome, passed}
+use Rattle.command_steps.specs.Gates.{Gate, Outcome, check, first_stop, or_next, outcome, gates_outcome}
 use Rattle.profile_cli.specs.Headline.{IsExactReport}
 use Rattle.profile_cli.specs.Order.{arguments_fault, elf_fault, elf_status, last_status, loading, pages_fault}
 use Rattle.profile_cli.specs.Order.{program_limit, reading, run_gate, work}
@@ -41,7 +41,7 @@ use Rattle.command_steps.specs.Saying.{Says, after_line}
 use Rattle.profile_cli.specs.Watching.{output_asked, parts_asked, watch_gates}
 use Rattle.profile_cli.specs.Words.{program_of}
 use Rattle.std.specs.List.{AllByRecursion}
-use Rattle.command_steps.proofs.AnswerLemmas.{IsRefusal, before_line, calm_before, never_wanting, said, stays}
+use Rattle.command_steps.proofs.AnswerLemmas.{IsRefusal, before_line, calm_before, never_wanting, line_is_written, stays}
 use Rattle.profile_cli.proofs.AnswerLemmas.{only_wants}
 use Rattle.profile_cli.proofs.CompleteDemoLemmas.{certain_demo}
 use Rattle.command_steps.proofs.CompleteReportLemmas.{certain_report}
@@ -57,13 +57,13 @@ use Rattle.byte_text.specs.Memory.{memory}
 held_input : (told : Option Files) (files : Files) (name : Option (List ℕ)) (before now : ℕ) (found : Load)
     → told ≡ Some files
     → (Rose before now → ⊥) → IsLoadIf told name input_limit before now found
-    → (found ≡ held_if files name input_limit) ⊎ (input_fault name found ≡ Some (OutOfMemory memory))
+    → (found ≡ faultless_load_if files name input_limit) ⊎ (input_fault name found ≡ Some (OutOfMemory memory))
 held_input told files None before now found is calm loads = inl loads
 held_input told files (Some name) before now found is calm loads =
     by (held_load told files name input_limit before now found is calm loads)
   where
-    by : (found ≡ held (file files name) input_limit) ⊎ (found ≡ Err (load.OutOfMemory memory))
-        → (found ≡ held_if files (Some name) input_limit) ⊎ (input_fault (Some name) found ≡ Some (OutOfMemory memory))
+    by : (found ≡ faultless_load (file files name) input_limit) ⊎ (found ≡ Err (load.OutOfMemory memory))
+        → (found ≡ faultless_load_if files (Some name) input_limit) ⊎ (input_fault (Some name) found ≡ Some (OutOfMemory memory))
     by (inl same) = inl same
     by (inr none) = inr (ap (load_fault name) none)
 
@@ -138,7 +138,7 @@ refusal_stays stop s found status answer refuses is same known status_is =
 -- ---- a reply to `run` or `report`
 
 -- What is known of a reply whose words were read: the gates behind the run are those of the command.
-record IsReplied (parts : Guest → Writing) (old new : Outside) (job : Job) (gates : Course → List Gate)
+record IsReplied (parts : Program → Writing) (old new : Outside) (job : Job) (gates : Course → List Gate)
     (status : Status) : Type 0 where
   met : Course
   read : met.words_read ≡ true
@@ -146,28 +146,28 @@ record IsReplied (parts : Guest → Writing) (old new : Outside) (job : Job) (ga
   err : Stream
   is : IsRun parts old job met (before_line new err)
   status_is : found
-      ≡ (passed (reading met ++ loading job met ++ run_gate job met.ran ∷ gates met) (last_status job met.ran)).status
+      ≡ (gates_outcome (reading met ++ loading job met ++ run_gate job met.run ∷ gates met) (last_status job met.run)).status
   leaves : Leaves old
-      (passed (reading met ++ loading job met ++ run_gate job met.ran ∷ gates met) (last_status job met.ran)).output
+      (gates_outcome (reading met ++ loading job met ++ run_gate job met.run ∷ gates met) (last_status job met.run)).output
       (before_line new err)
   rises : old.err.faults ≤ err.faults
   says : Says found err status new.err
   known : status ≢ OutOfMemory memory
 
-module _ {parts : Guest → Writing} (old new : Outside) (job : Job) (gates : Course → List Gate) (status : Status)
+module _ {parts : Program → Writing} (old new : Outside) (job : Job) (gates : Course → List Gate) (status : Status)
     (reply : IsReplied parts old new job gates status) where
   abbrev met_then : Course
   met_then = reply.met
 
   -- what the run and the gates behind it come to
   abbrev behind : Outcome
-  behind = passed (run_gate job met_then.ran ∷ gates met_then) (last_status job met_then.ran)
+  behind = gates_outcome (run_gate job met_then.run ∷ gates met_then) (last_status job met_then.run)
 
   comes : (stop : Option Status) → first_stop (loading job met_then) ≡ stop
-      → passed (reading met_then ++ loading job met_then ++ run_gate job met_then.ran ∷ gates met_then)
-      (last_status job met_then.ran)
+      → gates_outcome (reading met_then ++ loading job met_then ++ run_gate job met_then.run ∷ gates met_then)
+      (last_status job met_then.run)
       ≡ unless_stopped stop behind
-  comes stop is = by_loading job met_then stop (gates met_then) (last_status job met_then.ran) reply.read is
+  comes stop is = by_loading job met_then stop (gates met_then) (last_status job met_then.run) reply.read is
 
   -- memory was not wanting
   never : reply.found ≡ (OutOfMemory memory) → ⊥
@@ -177,7 +177,7 @@ module _ {parts : Guest → Writing} (old new : Outside) (job : Job) (gates : Co
   line_said : IsCalm old new
       → (status ≡ reply.found) × (new.err.taken ≡ taken_more reply.err.taken (message_of reply.found))
   line_said calm =
-      said reply.found status reply.says.answer reply.err new.err (message_of reply.found)
+      line_is_written reply.found status reply.says.answer reply.err new.err (message_of reply.found)
       (λ rose. calm.err (rose_from old.err.faults reply.err.faults new.err.faults reply.rises rose)) reply.known
       reply.says.status_is reply.says.written
 
@@ -190,7 +190,7 @@ module _ {parts : Guest → Writing} (old new : Outside) (job : Job) (gates : Co
 
   module _ (files : Files) (otherwise : Type 0) where
     abbrev over : Course
-    over = held_course files job
+    over = faultless_course files job
 
     -- what is decided by what the folder holds
     abbrev Decided : Type 0
@@ -203,25 +203,25 @@ module _ {parts : Guest → Writing} (old new : Outside) (job : Job) (gates : Co
         subst (λ o. Decides o otherwise status) (sym other) (early s stop)
 
     -- the input was not loaded for want of memory, or the work didn't come to it
-    without_input : met_then.program ≡ held (file files (program_of job.args)) program_limit
+    without_input : met_then.program ≡ faultless_load (file files (program_of job.args)) program_limit
         → input_fault job.input met_then.input ≡ Some (OutOfMemory memory) → Decided
     without_input program wants =
         by (third_stops (load_fault (program_of job.args) met_then.program) (elf_fault (bytes_of met_then.program))
         (input_fault job.input met_then.input) (arguments_fault job.args)
         (pages_fault (image_of (bytes_of met_then.program)))
-        (input_fault job.input (held_if files job.input input_limit))
+        (input_fault job.input (faultless_load_if files job.input input_limit))
         (OutOfMemory memory) wants)
       where
         by : (first_stop (loading job met_then) ≡ Some (OutOfMemory memory))
             ⊎ ((earlier : Status) × (first_stop (loading job met_then) ≡ Some earlier)
-            × (first_stop (loading job (record met_then { input = held_if files job.input input_limit }))
+            × (first_stop (loading job (record met_then { input = faultless_load_if files job.input input_limit }))
             ≡ Some earlier))
             → Decided
         by (inl stop) = absurd (reply.known (early (OutOfMemory memory) stop))
         by (inr (earlier, stop, other)) =
             both_stop earlier stop
             (subst (λ p. first_stop (loading job
-            (record no_course { program = p; input = held_if files job.input input_limit })) ≡ Some earlier)
+            (record no_course { program = p; input = faultless_load_if files job.input input_limit })) ≡ Some earlier)
             program other)
 
     -- the program was not loaded for want of memory
@@ -231,8 +231,8 @@ module _ {parts : Guest → Writing} (old new : Outside) (job : Job) (gates : Co
         (ap (λ p. first_stop (loading job (record no_course { program = p; input = met_then.input }))) none)))
 
     -- what was met in the loading is what the folder holds
-    as_held : met_then.program ≡ held (file files (program_of job.args)) program_limit
-        → met_then.input ≡ held_if files job.input input_limit
+    as_held : met_then.program ≡ faultless_load (file files (program_of job.args)) program_limit
+        → met_then.input ≡ faultless_load_if files job.input input_limit
         → ((first_stop (loading job met_then) ≡ None) → met_then.program ≡ over.program → met_then.input ≡ over.input
         → reply.found ≡ behind.status → Leaves old behind.output (before_line new reply.err) → otherwise)
         → Decided
@@ -258,9 +258,9 @@ module _ {parts : Guest → Writing} (old new : Outside) (job : Job) (gates : Co
         met_then.program told calm reply.is.program)
         (held_input old.files files job.input old.load_faults new.load_faults met_then.input told calm reply.is.input)
       where
-        by : (met_then.program ≡ held (file files (program_of job.args)) program_limit)
+        by : (met_then.program ≡ faultless_load (file files (program_of job.args)) program_limit)
             ⊎ (met_then.program ≡ Err (load.OutOfMemory memory))
-            → (met_then.input ≡ held_if files job.input input_limit)
+            → (met_then.input ≡ faultless_load_if files job.input input_limit)
             ⊎ (input_fault job.input met_then.input ≡ Some (OutOfMemory memory))
             → Decided
         by (inl program) (inl input) = as_held program input on
@@ -270,7 +270,7 @@ module _ {parts : Guest → Writing} (old new : Outside) (job : Job) (gates : Co
 -- ---- the reply to `run`
 
 abbrev gates_of : Job → Course → List Gate
-gates_of job met = watch_gates job.watching job.base met.waited
+gates_of job met = watch_gates job.watching job.base met.waits
 
 module _ (old new : Outside) (files : Files) (job : Job) (status : Status) (within : IsJob job)
     (reply : IsReplied (parts_asked job.watching) old new job (gates_of job) status)
@@ -298,13 +298,13 @@ module _ (old new : Outside) (files : Files) (job : Job) (status : Status) (with
         };
       }
 
-  certain_run : IfSome reply.met.ran (IsWaitedIn old job reply.met after_run) → IsCertain old files (words.Run job) status new
+  certain_run : IfSome reply.met.run (IsWaitedIn old job reply.met after_run) → IsCertain old files (words.Run job) status new
   certain_run waits =
       decided old new job (gates_of job) status reply files
-      (IsCalm old new → Ends old job (held_course files job) status new) told calm
+      (IsCalm old new → Ends old job (faultless_course files job) status new) told calm
       (λ passes program input found_is left still.
       let all = all_pass (loading job reply.met) passes in
-      subst (λ p. Ends old job (loaded p (held_course files job).input) status new) program
+      subst (λ p. Ends old job (loaded p (faultless_course files job).input) status new) program
       (subst (λ i. Ends old job (loaded reply.met.program i) status new) input
       (by still (ran_on old job within reply.found after_run (λ s. s ≡ OutOfMemory memory) refl
       (λ name rose. absurd (still.puts rose)) reply.met all.1.0
@@ -312,7 +312,7 @@ module _ (old new : Outside) (files : Files) (job : Job) (status : Status) (with
       only_wants (parts_asked job.watching) old after_run job (image_of (bytes_of reply.met.program))
       (bytes_of reply.met.input) syms all.1.1.1.0 all.1.1.1.1.0 (calm_before old new reply.err reply.says.never_falls still) refused
       output runs)
-      reply.met.ran reply.is.ran waits (record { status_is = found_is; left = left })))))
+      reply.met.run reply.is.run waits (record { status_is = found_is; leaves = left })))))
     where
       by : IsCalm old new
           → (reply.found ≡ OutOfMemory memory)
@@ -324,16 +324,16 @@ module _ (old new : Outside) (files : Files) (job : Job) (status : Status) (with
 -- ---- the reply to `report`
 
 module _ (old new : Outside) (files : Files) (job : Job) (view : View) (status : Status)
-    (reply : IsReplied (parts_asked job.watching) old new job (λ met. reporting_own met.read met.shown) status)
+    (reply : IsReplied (parts_asked job.watching) old new job (λ met. reporting_own met.profile met.report) status)
     (told : old.files ≡ Some files) (calm : Rose old.load_faults new.load_faults → ⊥) (within : IsJob job)
     (own : IsOfReport job.watching) where
   abbrev mid : Outside
   mid = before_line new reply.err
 
   abbrev gates : Course → List Gate
-  gates met = reporting_own met.read met.shown
+  gates met = reporting_own met.profile met.report
 
-  certain_own : IfSome reply.met.ran (IsReported old job view reply.met mid)
+  certain_own : IfSome reply.met.run (IsReported old job view reply.met mid)
       → IsCertain old files (words.Report job view) status new
   certain_own reported =
       decided old new job gates status reply files (IsCalm old new → IsExactReport old job view status new) told calm
@@ -346,7 +346,7 @@ module _ (old new : Outside) (files : Files) (job : Job) (view : View) (status :
       only_wants (parts_asked job.watching) old mid job (image_of (bytes_of reply.met.program))
       (bytes_of reply.met.input) syms all.1.1.1.0 all.1.1.1.1.0 (calm_before old new reply.err reply.says.never_falls still) refused
       output runs)
-      reply.is reported (record { status_is = found_is; left = left })))
+      reply.is reported (record { status_is = found_is; leaves = left })))
     where
       by : IsCalm old new → (reply.found ≡ (OutOfMemory memory)) ⊎ IsWorked old job view reply.found mid
           → IsExactReport old job view status new
@@ -358,25 +358,25 @@ module _ (old new : Outside) (files : Files) (job : Job) (view : View) (status :
 -- ---- want of memory
 
 -- the work came to want of memory
-found_wanting : (old new : Outside) (asked : Asked) (status : Status) (reply : Replies old asked status new)
+found_wanting : (old new : Outside) (asked : Request) (status : Status) (reply : Replies old asked status new)
     → (outcome (work asked reply.works.course)).status ≡ (OutOfMemory memory) → status ≢ (OutOfMemory memory) → ⊥
 found_wanting old new asked status reply is known =
     never_wanting reply.found status reply.says.answer known reply.says.status_is (reply.works.status_is ∙ is)
 
 -- where the words were not read, memory was wanting
-unread : (request : Asked) (met : Course) → met.words_read ≡ false → (outcome (work request met)).status ≡ OutOfMemory memory
+unread : (request : Request) (met : Course) → met.words_read ≡ false → (outcome (work request met)).status ≡ OutOfMemory memory
 unread request met none =
     subst (λ b. (outcome (work request (record met { words_read = b }))).status ≡ OutOfMemory memory) (sym none)
     (by request)
   where
-    by : (request : Asked) → (outcome (work request (record met { words_read = false }))).status ≡ OutOfMemory memory
+    by : (request : Request) → (outcome (work request (record met { words_read = false }))).status ≡ OutOfMemory memory
     by (words.Run job) = refl
     by (words.Report job view) = refl
     by (words.Annotate names view) = refl
     by (words.Demo size) = refl
     by words.Usage = refl
 
-was_read : (old new : Outside) (request : Asked) (status : Status) (reply : Replies old request status new)
+was_read : (old new : Outside) (request : Request) (status : Status) (reply : Replies old request status new)
     → status ≢ OutOfMemory memory
     → reply.works.course.words_read ≡ true
 was_read old new request status reply known = go reply.works.course.words_read refl
@@ -387,14 +387,14 @@ was_read old new request status reply known = go reply.works.course.words_read r
 
 -- ---- every reply
 
-usage_stays : (old new : Outside) (asked : Asked) (status : Status) (reply : Replies old asked status new)
+usage_stays : (old new : Outside) (asked : Request) (status : Status) (reply : Replies old asked status new)
     → reply.works.course.words_read ≡ true → status ≢ OutOfMemory memory
     → (outcome (work asked reply.works.course)).status
-    ≡ (passed (check (if reply.works.course.words_read then None else Some (OutOfMemory memory)) ∷ []) Usage).status
+    ≡ (gates_outcome (check (if reply.works.course.words_read then None else Some (OutOfMemory memory)) ∷ []) Usage).status
     → status ≡ Usage
 usage_stays old new asked status reply read known is =
     let found = reply.works.status_is ∙ is
-    ∙ ap (λ (b : Bool). (passed (check (if b then None else Some (OutOfMemory memory)) ∷ []) Usage).status) read in
+    ∙ ap (λ (b : Bool). (gates_outcome (check (if b then None else Some (OutOfMemory memory)) ∷ []) Usage).status) read in
     stays reply.found status reply.says.answer (ap is_finished found) known reply.says.status_is ∙ found
 
 abbrev replied_run : (old new : Outside) (job : Job) (status : Status) → Replies old (words.Run job) status new
@@ -415,7 +415,7 @@ replied_run old new job status reply known = record {
 abbrev replied_report : (old new : Outside) (job : Job) (view : View) (status : Status)
     → Replies old (words.Report job view) status new
     → status ≢ (OutOfMemory memory) → IsReplied (parts_asked job.watching) old new job
-    (λ met. reporting_own met.read met.shown) status
+    (λ met. reporting_own met.profile met.report) status
 replied_report old new job view status reply known = record {
   met = reply.works.course;
   read = was_read old new (words.Report job view) status reply known;
@@ -431,9 +431,9 @@ replied_report old new job view status reply known = record {
 
 -- what `annotate` comes to where the words were read
 by_words : (names : List (List ℕ)) (view : View) (met : Course) → met.words_read ≡ true
-    → outcome (work (words.Annotate names view) met) ≡ passed (annotating view met.read met.shown) Done
+    → outcome (work (words.Annotate names view) met) ≡ gates_outcome (annotating view met.profile met.report) Done
 by_words names view met read =
-    ap (λ (b : Bool). passed (check (if b then None else Some (OutOfMemory memory)) ∷ annotating view met.read met.shown) Done)
+    ap (λ (b : Bool). gates_outcome (check (if b then None else Some (OutOfMemory memory)) ∷ annotating view met.profile met.report) Done)
     read
 
 annotated : (old new : Outside) (names : List (List ℕ)) (view : View) (status : Status)
@@ -442,14 +442,14 @@ annotated : (old new : Outside) (names : List (List ℕ)) (view : View) (status 
 annotated old new names view status reply read =
     let met = reply.works.course in
     let comes = by_words names view met read in record {
-      found = met.read;
-      shown = met.shown;
+      found = met.profile;
+      report = met.report;
       met = reply.works.met;
       status_is = reply.works.status_is ∙ ap (λ (o : Outcome). o.status) comes;
       leaves = subst (λ (o : Outcome). Leaves old o.output (before_line new reply.err)) comes reply.works.leaves;
     }
 
-pub IsComplete-replies : (old new : Outside) (asked : Asked) (status : Status) → IsWithin asked
+pub IsComplete-replies : (old new : Outside) (asked : Request) (status : Status) → IsWithin asked
     → Replies old asked status new → IsComplete old asked status new
 IsComplete-replies old new (words.Run job) status within reply = λ files told calm known.
     certain_run old new files job status within (replied_run old new job status reply known) told calm

@@ -9,7 +9,7 @@ use Rattle.event_costs.specs.Costs.{event_names, events_shown}
 use Rattle.arc_costs.specs.Rows.{LineRow}
 use Rattle.shadow_stack.specs.Changes.{change}
 use Rattle.shadow_stack.specs.Stacks.{Activation}
-use Rattle.shadow_stack.specs.Traces.{Seen, seen}
+use Rattle.shadow_stack.specs.Traces.{EventOnStack, events_on_stacks}
 use Rattle.cg_read.specs.Profiles.{Contents}
 use Rattle.cg_read.specs.declared.rows.CallRow.{CallRow}
 use Rattle.cg_read.specs.declared.rows.SelfRow.{SelfRow}
@@ -18,10 +18,10 @@ use Rattle.once_each.specs.Parts.{all_arcs, all_lines}
 use Rattle.once_each.specs.Profiles.{IsProfileOf, Numbering, call_row, self_row}
 use Rattle.once_each.proofs.PartLemmas.{all_calls_where, all_lines_where, pushed_by, pushed_stack}
 use Rattle.once_each.proofs.SumLemmas.{sum_by-map, sum_by-same}
-use Rattle.profile_run.specs.Guest.{CanRun, Guest}
-use Rattle.profile_run.specs.Trace.{Makes, Taken}
+use Rattle.profile_run.specs.Program.{CanRun, Program}
+use Rattle.profile_run.specs.Trace.{Makes, RunStep}
 use Rattle.run_laws.specs.Profiles.{IsProfileOfRun}
-use Rattle.run_laws.specs.Runs.{events_counted, events_seen}
+use Rattle.run_laws.specs.Runs.{events_with_costs, events_with_stacks}
 use Rattle.run_laws.proofs.CostLemmas.{of_trace as profile_of_run}
 use Rattle.run_laws.proofs.EventLemmas.{have_stacks}
 use Rattle.profile_cli.specs.Counts.{CountEvents, is_of_pair, numbers_of, passes}
@@ -38,26 +38,26 @@ shown true names cost kind within = refl
 shown false names cost kind within =
     get_or-take 9 cost kind 0 (let few = length-take-le 9 names in omega (arith, few, within))
 
-module _ (guest : Guest) (can : CanRun guest) (trace : List Taken) (makes : Makes guest trace) (p : Contents)
+module _ (guest : Program) (can : CanRun guest) (trace : List RunStep) (makes : Makes guest trace) (p : Contents)
     (is : IsProfileOfRun guest trace p) where
   abbrev n : Numbering
   n = numbers_of guest p
 
-  of_trace : IsProfileOf guest.syms (events_counted trace) n p
+  of_trace : IsProfileOf guest.syms (events_with_costs trace) n p
   of_trace = profile_of_run guest can trace makes p is
 
   -- an event at a place, and one that pushes a frame
-  abbrev at : (ℕ → ℕ → ℕ → Bool) → ℕ → Seen → ℕ
+  abbrev at : (ℕ → ℕ → ℕ → Bool) → ℕ → EventOnStack → ℕ
   at test kind x = if passes guest p test x.event.done.pc then get_or x.cost kind 0 else 0
 
-  abbrev pushing : ℕ → ℕ → Seen → ℕ
+  abbrev pushing : ℕ → ℕ → EventOnStack → ℕ
   pushing caller callee x =
       option_map_or (λ frame. if is_of_pair guest p caller callee frame then 1 else 0)
       (change guest.syms x.event x.stack).pushed 0
 
   costs_are : (test : ℕ → ℕ → ℕ → Bool) (kind : ℕ) → kind < length p.events
       → sum_by (λ (row : SelfRow). if test row.func row.file row.line then get_or row.cost kind 0 else 0) p.self_rows
-      ≡ sum_by (at test kind) (events_seen trace)
+      ≡ sum_by (at test kind) (events_with_stacks trace)
   costs_are test kind within =
       ap (sum_by (λ (row : SelfRow). if test row.func row.file row.line then get_or row.cost kind 0 else 0))
       of_trace.self_rows
@@ -72,7 +72,7 @@ module _ (guest : Guest) (can : CanRun guest) (trace : List Taken) (makes : Make
       (shown n.branches event_names row.cost kind
       (subst (λ (names : List (List ℕ)). kind < length names) of_trace.events within)))
       (all_lines of_trace.parts)
-      ∙ all_lines_where guest.syms (events_counted trace) of_trace.parts of_trace.exact
+      ∙ all_lines_where guest.syms (events_with_costs trace) of_trace.parts of_trace.exact
       (λ place. test (n.func place.func.0) (n.file place.file.0) place.line) kind
       ∙ ap (sum_by (at test kind)) (sym (have_stacks guest can trace makes))
 
@@ -85,15 +85,15 @@ module _ (guest : Guest) (can : CanRun guest) (trace : List Taken) (makes : Make
       sum_by-cons (λ (a : Activation). if is_of_pair guest p caller callee a then 1 else 0) frame [] ∙ omega arith
 
   calls_are : (caller callee : ℕ)
-      → pair_calls caller callee p.call_rows ≡ sum_by (pushing caller callee) (events_seen trace)
+      → pair_calls caller callee p.call_rows ≡ sum_by (pushing caller callee) (events_with_stacks trace)
   calls_are caller callee =
       ap (pair_calls caller callee) of_trace.call_rows
       ∙ sum_by-map (λ (row : CallRow). if is_pair caller callee row then row.calls else 0) (call_row n)
       (all_arcs of_trace.parts)
-      ∙ all_calls_where guest.syms (events_counted trace) of_trace.parts of_trace.exact
+      ∙ all_calls_where guest.syms (events_with_costs trace) of_trace.parts of_trace.exact
       (λ arc. n.func arc.caller.0 == caller && n.func arc.callee.0 == callee)
       ∙ sum_by-same (λ x. count_by (is_of_pair guest p caller callee) (pushed_by guest.syms x)) (pushing caller callee)
-      (λ x. one_frame caller callee (change guest.syms x.event x.stack).pushed) (seen guest.syms (events_counted trace))
+      (λ x. one_frame caller callee (change guest.syms x.event x.stack).pushed) (events_on_stacks guest.syms (events_with_costs trace))
       ∙ ap (sum_by (pushing caller callee)) (sym (have_stacks guest can trace makes))
 
   pub counts_of : CountEvents guest trace p

@@ -17,26 +17,26 @@ use Rattle.profile_files.specs.Reading.{IsReading}
 use Rattle.profile_files.specs.declared.fault.ReadFault.{ReadFault}
 use Rattle.profile_files.specs.declared.fault.ReadFault.TheVariants as read
 use Rattle.profile_files.proofs.ReadingLemmas.{IsReading-wanting, IsReading-within}
-use Rattle.profile_run.specs.Guest.{Guest}
+use Rattle.profile_run.specs.Program.{Program}
 use Rattle.profile_run.specs.Parts.{Writing, plain_parts}
-use Rattle.profile_run.specs.Runs.{Ended, Runs}
+use Rattle.profile_run.specs.Runs.{RunEnd, Runs}
 use Rattle.profile_run.specs.declared.run_fault.RunFault.{RunFault}
 use Rattle.profile_run.specs.declared.run_end.PartFile.{PartFile}
 use Rattle.report_laws.specs.Exact.{parts_wanted}
 use Rattle.command_status.specs.Ends.{end_status}
 use Rattle.command_status.specs.declared.status.Status.{Status}
 use Rattle.command_status.specs.declared.status.Status.TheVariants as wanted
-use Rattle.command_words.specs.Asked as words
-use Rattle.command_words.specs.Asked.{Job}
+use Rattle.command_words.specs.Request as words
+use Rattle.command_words.specs.Request.{Job}
 use Rattle.command_words.specs.Within.{IsJob}
-use Rattle.command_steps.specs.Stages.{met}
-use Rattle.profile_cli.specs.Course.{Course, Ran, no_course}
-use Rattle.command_steps.specs.Summary.{Summed, IsSummed, summary_of, ShowsSummary}
+use Rattle.command_steps.specs.Stages.{final_status}
+use Rattle.profile_cli.specs.Course.{Course, RunOutcome, no_course}
+use Rattle.command_steps.specs.Summary.{SummaryOutcome, IsSummed, summary_of, ShowsSummary}
 use Rattle.profile_cli.specs.Demo.{IsDemoRan, IsSummedEnd, IsSummedStop, demo_guest, demo_job, figures_of}
-use Rattle.command_steps.specs.Gates.{Outcome, at_gate, passed}
+use Rattle.command_steps.specs.Gates.{Outcome, at_gate, gates_outcome}
 use Rattle.command_steps.specs.Loading.{HasStatus}
 use Rattle.profile_cli.specs.Order.{behind_demo, behind_end, elf_fault, elf_status, fault_status, reading}
-use Rattle.profile_cli.specs.OwnReport.{listed}
+use Rattle.profile_cli.specs.OwnReport.{parts_to_read}
 use Rattle.profile_cli.specs.Program.{IsMapOf}
 use Rattle.profile_cli.specs.Reply.{Works}
 use Rattle.command_steps.specs.declared.summary.Figures.{Figures}
@@ -70,7 +70,7 @@ job_is_job job is = subst IsJob (sym is) demo_is_job
 pub DemoStopped-wanting : (old new : Outside) (file : List ℕ) (status : Status) → status ≡ wanted.OutOfMemory memory
     → Leaves old nothing new → DemoStopped old file status new
 DemoStopped-wanting old new file status is leaves = record {
-  ran = None;
+  run = None;
   output = nothing;
   is = tt;
   comes = λ gates last. ap (λ s. let o : Outcome = record { status = s; output = nothing } in o) (sym is);
@@ -88,7 +88,7 @@ only_wanting file status accepted (inr stop) = absurd (none_is_some (sym (ap (op
 
 -- the guest was run
 RunsDemo-ran : (old new : Outside) (job : Job) (file input : List ℕ) (image : Image) (syms : SymbolMap)
-    (result : Result Ended Status)
+    (result : Result RunEnd Status)
     → job ≡ demo_job → input ≡ [] → image ≡ image_of file → IsMapOf image syms → IsSound syms
     → RunsGuest plain_parts job image syms input old result new → RunsDemo old file result new
 RunsDemo-ran old new job file input image syms result is_job empty is_image symbols sound ran =
@@ -99,11 +99,11 @@ RunsDemo-ran old new job file input image syms result is_job empty is_image symb
     symbols_of : IsMapOf (image_of file) syms
     symbols_of = subst (λ i. IsMapOf i syms) is_image symbols
 
-    stopped : (refused : RunFault) (stop : Result Ended RunFault) (output : Output) → stop ≡ Err refused
+    stopped : (refused : RunFault) (stop : Result RunEnd RunFault) (output : Output) → stop ≡ Err refused
         → Runs (plain_parts (demo_guest file syms)) (demo_guest file syms) old stop output new → Leaves old output new
         → DemoStopped old file (fault_status demo_job.base refused) new
     stopped refused stop output is runs leaves = record {
-      ran = Some (record { syms = syms; stop = Err refused; output = output });
+      run = Some (record { syms = syms; stop = Err refused; output = output });
       output = output;
       is = record {
         symbols = symbols_of;
@@ -114,7 +114,7 @@ RunsDemo-ran old new job file input image syms result is_job empty is_image symb
       leaves = leaves;
     }
 
-    by : (result : Result Ended Status) → RunsGuest plain_parts demo_job (image_of file) syms [] old result new
+    by : (result : Result RunEnd Status) → RunsGuest plain_parts demo_job (image_of file) syms [] old result new
         → RunsDemo old file result new
     by (Ok run) answers =
         let whole = subst (λ s. Runs (plain_parts (demo_guest file syms)) (demo_guest file syms) old s
@@ -125,22 +125,22 @@ RunsDemo-ran old new job file input image syms result is_job empty is_image symb
           sound = sound;
           fits = whole.0;
           whole = whole.1;
-          leaves = answers.left;
+          leaves = answers.leaves;
         }
     by (Err status) answers =
         let answered = answers.answered in
         subst (λ s. DemoStopped old file s new) (sym answered.2)
-        (stopped answered.0 answers.stop answers.output answered.1 answers.runs answers.left)
+        (stopped answered.0 answers.stop answers.output answered.1 answers.runs answers.leaves)
 
 -- a stage stopped the run
-pub RunsDemo-exit : (old new : Outside) (file : List ℕ) (stop : Status) (result : Result Ended Status)
+pub RunsDemo-exit : (old new : Outside) (file : List ℕ) (stop : Status) (result : Result RunEnd Status)
     → IsErrAnd result (λ status. status ≡ stop) → DemoStopped old file stop new → RunsDemo old file result new
 RunsDemo-exit old new file stop (Ok run) none stops = absurd none
 RunsDemo-exit old new file stop (Err status) is stops = subst (λ s. DemoStopped old file s new) (sym is) stops
 
 -- the guest of the program was run or not
-pub RunsDemo-elf : (parts : Guest → Writing) (IsSo : Guest → Type 0) → parts ≡ plain_parts → (old new : Outside)
-    (job : Job) (file input : List ℕ) (image : Image) (result : Result Ended Status)
+pub RunsDemo-elf : (parts : Program → Writing) (IsSo : Program → Type 0) → parts ≡ plain_parts → (old new : Outside)
+    (job : Job) (file input : List ℕ) (image : Image) (result : Result RunEnd Status)
     → job ≡ demo_job → input ≡ [] → image ≡ image_of file → RunsElf parts IsSo job image input old result new
     → RunsDemo old file result new
 RunsDemo-elf parts IsSo plain old new job file input image result is_job empty is_image (inl (wants, same)) =
@@ -149,7 +149,7 @@ RunsDemo-elf parts IsSo plain old new job file input image result is_job empty i
     (subst (λ o. Leaves old nothing o) (sym same) (Leaves-nothing old old refl refl refl)))
 RunsDemo-elf parts IsSo plain old new job file input image result is_job empty is_image (inr with) =
     RunsDemo-ran old new job file input image with.syms result is_job empty is_image with.symbols with.sound
-    (subst (λ p. RunsGuest p job image with.syms input old result new) plain with.ran)
+    (subst (λ p. RunsGuest p job image with.syms input old result new) plain with.run)
 
 -- ---- the work
 
@@ -159,23 +159,23 @@ pub Works-no_program : (old new : Outside) (size : ℕ) → Leaves old nothing n
 Works-no_program old new size leaves =
     record { course = no_course; met = tt; status_is = refl; leaves = leaves }
 
-abbrev met_stopped : List ℕ → Option Ran → Course
-met_stopped file ran = record no_course { program = Ok file; ran = ran }
+abbrev met_stopped : List ℕ → Option RunOutcome → Course
+met_stopped file ran = record no_course { program = Ok file; run = ran }
 
-unsummed : (old : Outside) (size : ℕ) (file : List ℕ) (met : Course) (new : Outside) (run : Ended) (stop : End)
-    → met.summed ≡ None → IsSummedEnd old size file met new run stop
+unsummed : (old : Outside) (size : ℕ) (file : List ℕ) (met : Course) (new : Outside) (run : RunEnd) (stop : End)
+    → met.summary ≡ None → IsSummedEnd old size file met new run stop
 unsummed old size file met new run (end.Exited code) none =
-    subst (λ s. IfSome s (λ s. IfOk met.read (λ p. IsSummed old (figures_of size (length file) code run) p new s)))
+    subst (λ s. IfSome s (λ s. IfOk met.profile (λ p. IsSummed old (figures_of size (length file) code run) p new s)))
     (sym none) tt
 unsummed old size file met new run _ none = tt
 
 unsummed_stop : (old : Outside) (size : ℕ) (file : List ℕ) (met : Course) (new : Outside)
-    (stop : Result Ended RunFault) → met.summed ≡ None → IsSummedStop old size file met new stop
+    (stop : Result RunEnd RunFault) → met.summary ≡ None → IsSummedStop old size file met new stop
 unsummed_stop old size file met new (Ok run) none = unsummed old size file met new run run.end none
 unsummed_stop old size file met new (Err fault) none = tt
 
 -- the parts were not read
-unread : (old new : Outside) (size : ℕ) (file : List ℕ) (ran : Option Ran) (all : Option Ran)
+unread : (old new : Outside) (size : ℕ) (file : List ℕ) (ran : Option RunOutcome) (all : Option RunOutcome)
     → IsFileOf (demo size) file → IfSome ran (IsRanSo old file new)
     → IfSome ran (IsDemoRan old size (met_stopped file all) new)
 unread old new size file None all made is = tt
@@ -187,26 +187,26 @@ unread old new size file (Some ran) all made is = record {
   sound = is.sound;
   runs = is.runs;
   reading = IsReading-wanting new.files old.load_faults new.load_faults (no_rows (events_shown false event_names))
-      (listed demo_job ran.stop) (read.OutOfMemory memory) refl;
+      (parts_to_read demo_job ran.stop) (read.OutOfMemory memory) refl;
   profile = tt;
-  summed = unsummed_stop old size file (met_stopped file all) new ran.stop refl;
+  summary = unsummed_stop old size file (met_stopped file all) new ran.stop refl;
 }
 
 -- it stopped before the end of the run
 pub Works-stopped_demo : (old new : Outside) (size : ℕ) (file : List ℕ) (status : Status)
     → IsFileOf (demo size) file → DemoStopped old file status new → Works old (words.Demo size) status new
 Works-stopped_demo old new size file status made stops =
-    let met = met_stopped file stops.ran in
-    let comes = stops.comes (behind_demo size met stops.ran).gates (behind_demo size met stops.ran).last in record {
+    let met = met_stopped file stops.run in
+    let comes = stops.comes (behind_demo size met stops.run).gates (behind_demo size met stops.run).last in record {
       course = met;
-      met = unread old new size file stops.ran stops.ran made stops.is;
+      met = unread old new size file stops.run stops.run made stops.is;
       status_is = sym (ap (λ (o : Outcome). o.status) comes);
       leaves = subst (λ (o : Outcome). Leaves old o.output new) (sym comes) stops.leaves;
     }
 
 -- an end that is no exit is the status
-other_end : (size : ℕ) (met : Course) (run : Ended) (stop : End) → ((code : ℕ) → stop ≡ end.Exited code → ⊥)
-    → passed (behind_end size met run stop).gates (behind_end size met run stop).last
+other_end : (size : ℕ) (met : Course) (run : RunEnd) (stop : End) → ((code : ℕ) → stop ≡ end.Exited code → ⊥)
+    → gates_outcome (behind_end size met run stop).gates (behind_end size met run stop).last
     ≡ record { status = end_status stop; output = nothing }
 other_end size met run (end.Exited code) none = absurd (none code refl)
 other_end size met run _ none = refl
@@ -219,7 +219,7 @@ pub exited_with : (stop : End) (code : ℕ) → code_of stop ≡ Some code → s
 exited_with (end.Exited other) code is = ap (λ n. end.Exited n) (same_Some other code is)
 exited_with _ code is = absurd (none-some code is)
 
-summed_with : (old mid new : Outside) (f : Figures) (read : Result Contents ReadFault) (s : Summed)
+summed_with : (old mid new : Outside) (f : Figures) (read : Result Contents ReadFault) (s : SummaryOutcome)
     → old.out.faults ≤ mid.out.faults
     → IfOk read (λ p. IsSummed mid f p new s) → IfOk read (λ p. IsSummed old f p new s)
 summed_with old mid new f (Ok p) s early is = record {
@@ -229,7 +229,7 @@ summed_with old mid new f (Ok p) s early is = record {
 }
 summed_with old mid new f (Err fault) s early is = tt
 
-summed_since : (old mid new : Outside) (f : Figures) (read : Result Contents ReadFault) (summed : Option Summed)
+summed_since : (old mid new : Outside) (f : Figures) (read : Result Contents ReadFault) (summed : Option SummaryOutcome)
     → old.out.faults ≤ mid.out.faults
     → IfSome summed (λ s. IfOk read (λ p. IsSummed mid f p new s))
     → IfSome summed (λ s. IfOk read (λ p. IsSummed old f p new s))
@@ -245,7 +245,7 @@ pub SumsUp-unread : (old new : Outside) (f : Figures) (parts : List PartFile) (s
     → new.files ≡ old.files → Leaves old nothing new → SumsUp old f parts (Err status) new
 SumsUp-unread old new f parts status (refused, reading, is) same leaves = record {
   read = Err refused;
-  summed = None;
+  summary = None;
   output = nothing;
   reading = reading;
   profile = tt;
@@ -257,7 +257,7 @@ SumsUp-unread old new f parts status (refused, reading, is) same leaves = record
   leaves = leaves;
 }
 
-summed_of : (f : Figures) (p : Contents) (old new : Outside) (summed : Option Summed)
+summed_of : (f : Figures) (p : Contents) (old new : Outside) (summed : Option SummaryOutcome)
     → IfSome summed (IsSummed old f p new)
     → (read : Result Contents ReadFault) → read ≡ Ok p → IfSome summed (λ s. IfOk read (λ p. IsSummed old f p new s))
 summed_of f p old new None is read same = tt
@@ -276,14 +276,14 @@ SumsUp-shown old mid new f told parts p result reading profile same out err load
     by : ShowsSummary mid f p result new → SumsUp old f parts result new
     by up = record {
       read = Ok p;
-      summed = up.summed;
+      summary = up.summary;
       output = up.output;
       reading = subst (λ n. IsReading old.files old.load_faults n (no_rows (events_shown false event_names))
           (parts_wanted demo_job.base parts) (Ok p)) loads reading;
       profile = profile;
-      is = summed_since old mid new f (Ok p) up.summed
+      is = summed_since old mid new f (Ok p) up.summary
           (subst (λ (s : Stream). old.out.faults ≤ s.faults) (sym out) (omega arith))
-          (summed_of f p mid new up.summed up.is (Ok p) refl);
+          (summed_of f p mid new up.summary up.is (Ok p) refl);
       comes = up.comes;
       puts = up.puts;
       refused = up.refused;
@@ -299,23 +299,23 @@ SumsUp-stopped old new f parts stop (Ok done) none sums = absurd none
 SumsUp-stopped old new f parts stop (Err status) is sums =
     subst (λ s. SumsUp old f parts (Err s) new) (sym is) sums
 
-module _ (old mid : Outside) (size : ℕ) (file : List ℕ) (made : IsFileOf (demo size) file) (run : Ended)
+module _ (old mid : Outside) (size : ℕ) (file : List ℕ) (made : IsFileOf (demo size) file) (run : RunEnd)
     (ended : DemoEnded old file run mid) where
-  abbrev ran : Ran
+  abbrev ran : RunOutcome
   ran = record { syms = ended.syms; stop = Ok run; output = ended.output }
 
-  abbrev met_with : Result Contents ReadFault → Option Summed → Course
-  met_with read summed = record (met_stopped file (Some ran)) { read = read; summed = summed }
+  abbrev met_with : Result Contents ReadFault → Option SummaryOutcome → Course
+  met_with read summed = record (met_stopped file (Some ran)) { profile = read; summary = summed }
 
   no_put_refused : ended.output.refused ≡ None
   no_put_refused = whole_refused (demo_guest file ended.syms) run ended.output ended.whole
 
-  works_on : (new : Outside) (read : Result Contents ReadFault) (summed : Option Summed) (status : Status)
+  works_on : (new : Outside) (read : Result Contents ReadFault) (summed : Option SummaryOutcome) (status : Status)
       (next : Output)
       → IsReading new.files old.load_faults new.load_faults (no_rows (events_shown false event_names))
-      (listed demo_job (Ok run)) read
+      (parts_to_read demo_job (Ok run)) read
       → IfOk read IsProfile → IsSummedEnd old size file (met_with read summed) new run run.end
-      → passed (behind_end size (met_with read summed) run run.end).gates
+      → gates_outcome (behind_end size (met_with read summed) run run.end).gates
       (behind_end size (met_with read summed) run run.end).last ≡ record { status = status; output = next }
       → Leaves old (and_then ended.output next) new → Works old (words.Demo size) status new
   works_on new read summed status next reading profile sums comes leaves =
@@ -330,7 +330,7 @@ module _ (old mid : Outside) (size : ℕ) (file : List ℕ) (made : IsFileOf (de
           runs = (ended.fits, ended.whole);
           reading = reading;
           profile = profile;
-          summed = sums;
+          summary = sums;
         };
         status_is = sym (ap (λ (o : Outcome). o.status) all);
         leaves = subst (λ (o : Outcome). Leaves old o.output new) (sym all) leaves;
@@ -342,24 +342,24 @@ module _ (old mid : Outside) (size : ℕ) (file : List ℕ) (made : IsFileOf (de
   Works-other_end none =
       works_on mid (Err (read.OutOfMemory memory)) None (end_status run.end) nothing
       (IsReading-wanting mid.files old.load_faults mid.load_faults (no_rows (events_shown false event_names))
-      (listed demo_job (Ok run)) (read.OutOfMemory memory) refl)
+      (parts_to_read demo_job (Ok run)) (read.OutOfMemory memory) refl)
       tt (unsummed old size file (met_with (Err (read.OutOfMemory memory)) None) mid run run.end refl)
       (other_end size (met_with (Err (read.OutOfMemory memory)) None) run run.end none)
       (Leaves-and_nothing old mid ended.output no_put_refused ended.leaves)
 
   -- as its fields have it
-  pub Works-other_as : (inside : Ended) (status : Status) → status ≡ end_status inside.end → inside ≡ run
+  pub Works-other_as : (inside : RunEnd) (status : Status) → status ≡ end_status inside.end → inside ≡ run
       → code_of inside.end ≡ None → Works old (words.Demo size) status mid
   Works-other_as inside status is same none =
-      subst (λ s. Works old (words.Demo size) s mid) (sym (is ∙ ap (λ (r : Ended). end_status r.end) same))
-      (Works-other_end (not_exited run.end (ap (λ (r : Ended). code_of r.end) (sym same) ∙ none)))
+      subst (λ s. Works old (words.Demo size) s mid) (sym (is ∙ ap (λ (r : RunEnd). end_status r.end) same))
+      (Works-other_end (not_exited run.end (ap (λ (r : RunEnd). code_of r.end) (sym same) ∙ none)))
 
   still_read : (later new : Outside) (answer : Result Contents ReadFault)
       → IsReading mid.files mid.load_faults later.load_faults (no_rows (events_shown false event_names))
       (parts_wanted demo_job.base run.parts) answer
       → new.files ≡ mid.files → old.load_faults ≤ mid.load_faults → later.load_faults ≤ new.load_faults
       → IsReading new.files old.load_faults new.load_faults (no_rows (events_shown false event_names))
-      (listed demo_job (Ok run)) answer
+      (parts_to_read demo_job (Ok run)) answer
   still_read later new answer reading same early late =
       subst (λ files. IsReading files old.load_faults new.load_faults (no_rows (events_shown false event_names))
       (parts_wanted demo_job.base run.parts) answer) (sym same)
@@ -378,30 +378,30 @@ module _ (old mid : Outside) (size : ℕ) (file : List ℕ) (made : IsFileOf (de
       by : SumsUp mid (figures_of size (length file) code run) run.parts result new
           → Works old (words.Demo size) (report_status wanted.Done result) new
       by up =
-          works_on new up.read up.summed (report_status wanted.Done result) up.output
+          works_on new up.read up.summary (report_status wanted.Done result) up.output
           (still_read new new up.read up.reading up.same_files early (omega arith)) up.profile
-          (subst (λ e. IsSummedEnd old size file (met_with up.read up.summed) new run e) (sym exited)
-          (summed_since old mid new (figures_of size (length file) code run) up.read up.summed faults up.is))
-          (ap (λ e. passed (behind_end size (met_with up.read up.summed) run e).gates
-          (behind_end size (met_with up.read up.summed) run e).last) exited ∙ up.comes wanted.Done)
+          (subst (λ e. IsSummedEnd old size file (met_with up.read up.summary) new run e) (sym exited)
+          (summed_since old mid new (figures_of size (length file) code run) up.read up.summary faults up.is))
+          (ap (λ e. gates_outcome (behind_end size (met_with up.read up.summary) run e).gates
+          (behind_end size (met_with up.read up.summary) run e).last) exited ∙ up.comes wanted.Done)
           (Leaves-then old mid new ended.output up.output no_put_refused up.puts up.refused ended.leaves up.leaves
           up.same_files)
 
   -- the same, where the summary is told of the run as its fields have it
-  pub Works-summed_as : (inside told : Ended) (code : ℕ) → inside ≡ run → told ≡ run → code_of inside.end ≡ Some code
+  pub Works-summed_as : (inside told : RunEnd) (code : ℕ) → inside ≡ run → told ≡ run → code_of inside.end ≡ Some code
       → (len : ℕ) → len ≡ length file → (new : Outside) (result : Result (Unit {0}) Status)
       → SumsUp mid (figures_of size len code told) told.parts result new
       → old.load_faults ≤ mid.load_faults → old.out.faults ≤ mid.out.faults
       → Works old (words.Demo size) (report_status wanted.Done result) new
   Works-summed_as inside told code same also exited len is_len new result sums =
-      Works-summed code (exited_with run.end code (ap (λ (r : Ended). code_of r.end) (sym same) ∙ exited))
+      Works-summed code (exited_with run.end code (ap (λ (r : RunEnd). code_of r.end) (sym same) ∙ exited))
       len is_len new
-      result (subst (λ (r : Ended). SumsUp mid (figures_of size len code r) r.parts result new) also sums)
+      result (subst (λ (r : RunEnd). SumsUp mid (figures_of size len code r) r.parts result new) also sums)
 
 -- a stage stopped the work
 pub Works-demo_exit : (old new : Outside) (size : ℕ) (stop : Status) (result : Result Status Status)
     → IsErrAnd result (λ status. status ≡ stop) → Works old (words.Demo size) stop new
-    → Works old (words.Demo size) (met result) new
+    → Works old (words.Demo size) (final_status result) new
 Works-demo_exit old new size stop (Ok status) none works = absurd none
 Works-demo_exit old new size stop (Err status) is works =
     subst (λ s. Works old (words.Demo size) s new) (sym is) works
@@ -411,7 +411,7 @@ pub made_of : (size : ℕ) (file items : List ℕ) → file ≡ items → IsFile
 made_of size file items same made = subst (λ f. IsFileOf (demo size) f) (sym same) made
 
 -- what is told of a run, by the fields of what it answered
-pub told_of : (size len code files : ℕ) (inside run : Ended) → inside ≡ run → files ≡ length inside.parts
+pub told_of : (size len code files : ℕ) (inside run : RunEnd) → inside ≡ run → files ≡ length inside.parts
     → (let told : Figures = record {
       size = size;
       len = len;

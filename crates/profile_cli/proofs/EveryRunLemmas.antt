@@ -9,25 +9,25 @@ use Rattle.elf_read.specs.Refusal.{refusal}
 use Rattle.sym_map.specs.SymbolMap.{IsSound, SymbolMap}
 use Rattle.profile_files.specs.Loads.{IsLoad}
 use Rattle.outside.specs.Load.{bytes_of}
-use Rattle.profile_run.specs.Guest.{Guest, CanRun}
-use Rattle.profile_run.specs.Runs.{Ended, Runs}
-use Rattle.profile_run.specs.Trace.{IsTraceOf, Makes, Stop, Taken, steps_of}
+use Rattle.profile_run.specs.Program.{Program, CanRun}
+use Rattle.profile_run.specs.Runs.{RunEnd, Runs}
+use Rattle.profile_run.specs.Trace.{IsTraceOf, Makes, Stop, RunStep, steps_of}
 use Rattle.profile_run.specs.declared.run_fault.RunFault.{RunFault}
 use Rattle.run_laws.proofs.EventLemmas.{have_stacks}
 use Rattle.run_laws.proofs.OwnRowLemmas.{own_last}
 use Rattle.command_status.specs.Ends.{end_status}
 use Rattle.command_status.specs.declared.status.Status.{Status}
 use Rattle.command_status.specs.declared.status.Status.TheVariants.{OutOfMemory, PutFault}
-use Rattle.command_words.specs.Asked.{Asked, Job, Run}
+use Rattle.command_words.specs.Request.{Request, Job, Run}
 use Rattle.command_words.specs.Within.{IsJob, IsWithin}
 use Rattle.run_laws.proofs.AnswerLemmas.{folds_back, order_of}
 use Rattle.run_laws.proofs.CtxFoldableLemmas.{may_fold, plain_sums}
 use Rattle.run_laws.proofs.AddrFoldableLemmas as addresses
 use Rattle.profile_cli.specs.Addresses.{IsAddresses}
 use Rattle.profile_cli.specs.Contexts.{IsContexts}
-use Rattle.profile_cli.specs.Course.{Course, Ran}
+use Rattle.profile_cli.specs.Course.{Course, RunOutcome}
 use Rattle.command_steps.specs.Loading.{IsLoadIf, input_fault, input_limit, load_fault}
-use Rattle.command_steps.specs.Gates.{Outcome, at_gate, passed}
+use Rattle.command_steps.specs.Gates.{Outcome, at_gate, gates_outcome}
 use Rattle.profile_cli.specs.HasRun.{AsksToRun, HasRun, OfRuns, RunOf}
 use Rattle.command_status.specs.Numbers.{is_short}
 use Rattle.profile_cli.specs.Order.{elf_fault, fault_status, last_status, program_limit, run_fault, run_gate}
@@ -69,20 +69,20 @@ module _ (old : Outside) (job : Job) (within : IsJob job) (found : Status) (mid 
 
   -- what the gates behind the run come to
   abbrev behind : Status → Outcome
-  behind last = passed (watch_gates job.watching job.base met.waited) last
+  behind last = gates_outcome (watch_gates job.watching job.base met.waits) last
 
-  stopped_on : (syms : SymbolMap) (stop : Result Ended RunFault) (output : Output)
+  stopped_on : (syms : SymbolMap) (stop : Result RunEnd RunFault) (output : Output)
       → IsMapOf (image_of (bytes_of met.program)) syms → IsSound syms
       → Runs (parts_asked job.watching (guest_met job met syms)) (guest_met job met syms) old stop output mid
-      → IfSome met.waited (IsWaited old (guest_met job met syms) mid)
+      → IfSome met.waits (IsWaited old (guest_met job met syms) mid)
       → At old found mid nothing (at_gate (run_fault job.base stop) output (behind (run_status job.base stop))) → Goal
   stopped_on syms (Err refused) output symbols sound runs known at =
       inl (subst Such (sym at.status_is) (cut syms refused output runs))
   stopped_on syms (Ok ended) output symbols sound runs known at =
       by (past_watch old mid guest runs.1.trace runs.1.stop runs.1.is output (end_status ended.end)
-      job.watching met.waited runs.1.output known)
+      job.watching met.waits runs.1.output known)
     where
-      guest : Guest
+      guest : Program
       guest = guest_met job met syms
 
       by : Comes old mid guest runs.1.trace runs.1.stop runs.1.is output (end_status ended.end)
@@ -107,12 +107,12 @@ module _ (old : Outside) (job : Job) (within : IsJob job) (found : Status) (mid 
           budget = within.budget.most_of;
         };
         status_is = at.status_is ∙ past.status ∙ ap end_status runs.1.end;
-        leaves = subst (λ o. Leaves old o mid) past.output_is at.left;
+        leaves = subst (λ o. Leaves old o mid) past.output_is at.leaves;
       })
 
-  pub ran_on : (ran : Option Ran) → IfSome ran (IsRan (parts_asked job.watching) old job met mid)
+  pub ran_on : (ran : Option RunOutcome) → IfSome ran (IsRan (parts_asked job.watching) old job met mid)
       → IfSome ran (IsWaitedIn old job met mid)
-      → At old found mid nothing (passed (run_gate job ran ∷ watch_gates job.watching job.base met.waited)
+      → At old found mid nothing (gates_outcome (run_gate job ran ∷ watch_gates job.watching job.base met.waits)
       (last_status job ran))
       → Goal
   ran_on None known waits at = inl (subst Such (sym at.status_is) wants)
@@ -123,20 +123,20 @@ module _ (old : Outside) (job : Job) (within : IsJob job) (found : Status) (mid 
 
 -- a run of a guest that can be run
 record HasRunWell (old : Outside) (job : Job) (status : Status) (new : Outside) : Type 0 where
-  ran : HasRun old job status new
-  can : CanRun ran.run.guest
+  run : HasRun old job status new
+  can : CanRun run.run.guest
 
 -- the run is whole, unless the work stopped short
 run_or_short : (old new : Outside) (job : Job) (status : Status) → IsJob job
     → (replies : Replies old (Run job) status new) → is_short status ≡ false → HasRunWell old job status new
 run_or_short old new job status within replies long =
     by (loading_on IsShort old job replies.found mid (HasRunWell old job status new) met (loading_short job met)
-    (watch_gates job.watching job.base met.waited)
+    (watch_gates job.watching job.base met.waits)
     (λ program_none elf_none input_none at.
     whole program_none input_none
     (ran_on old job within replies.found mid IsShort refl (λ name rose. refl) met elf_none
-    (λ syms refused output runs. fault_short job.base refused) met.ran replies.works.met.0.ran replies.works.met.1 at))
-    (record { status_is = replies.works.status_is; left = replies.works.leaves }))
+    (λ syms refused output runs. fault_short job.base refused) met.run replies.works.met.0.run replies.works.met.1 at))
+    (record { status_is = replies.works.status_is; leaves = replies.works.leaves }))
   where
     met : Course
     met = replies.works.course
@@ -152,7 +152,7 @@ run_or_short old new job status within replies long =
         let said =
         line_written replies.found status replies.err new.err replies.says w.run.stop.end w.status_is long in
         inr (record {
-          ran = record {
+          run = record {
             program = bytes_of met.program;
             loaded = subst (IsLoad old.files (program_of job.args) program_limit old.load_faults mid.load_faults)
                 (loaded_is (program_of job.args) met.program program_none) replies.works.met.0.program;
@@ -171,7 +171,7 @@ run_or_short old new job status within replies long =
     by (inr w) = w
 
 -- and so is that of a report
-asked_or_short : (old new : Outside) (asked : Asked) (status : Status) → IsWithin asked
+asked_or_short : (old new : Outside) (asked : Request) (status : Status) → IsWithin asked
     → Replies old asked status new → (job : Job) → AsksToRun old asked job → is_short status ≡ false
     → HasRunWell old job status new
 asked_or_short old new asked status within replies job (inl is) long =
@@ -179,41 +179,41 @@ asked_or_short old new asked status within replies job (inl is) long =
 asked_or_short old new asked status within replies job (inr asks) long =
     let fits = subst IsWithin asks.asked_is within in
     let reply = subst (λ a. Replies old a status new) asks.asked_is replies in
-    let all = reported_or_short old new job asks.view status fits.0 fits.3 reply asks.contents asks.told long in
-    record { ran = same_run old new job reply.found status reply.err all.worked.ran all.status_is; can = all.worked.can }
+    let all = reported_or_short old new job asks.view status fits.0 fits.3 reply asks.contents asks.contents_are long in
+    record { run = same_run old new job reply.found status reply.err all.worked.run all.status_is; can = all.worked.can }
 
 -- ---- what is so of every run is so of this one
 
-module _ (IsSo : Job → Guest → List Taken → Type 0) (law : (job : Job) (program input : List ℕ)
+module _ (IsSo : Job → Program → List RunStep → Type 0) (law : (job : Job) (program input : List ℕ)
     (run : RunOf job program input) → CanRun run.guest → IsSo job run.guest run.trace) where
-  of_runs : (old new : Outside) (asked : Asked) (status : Status) → IsWithin asked → Replies old asked status new
+  of_runs : (old new : Outside) (asked : Request) (status : Status) → IsWithin asked → Replies old asked status new
       → OfRuns IsSo old asked status new
   of_runs old new asked status within replies = λ job asks long.
       let whole = asked_or_short old new asked status within replies job asks long in record {
-        ran = whole.ran;
-        so = law job whole.ran.program whole.ran.input whole.ran.run whole.can;
+        run = whole.run;
+        so = law job whole.run.program whole.run.input whole.run.run whole.can;
       }
 
-makes_of : (guest : Guest) (trace : List Taken) (stop : Stop) → IsTraceOf guest trace stop → Makes guest trace
+makes_of : (guest : Program) (trace : List RunStep) (stop : Stop) → IsTraceOf guest trace stop → Makes guest trace
 makes_of guest trace stop is = record { last = is.last; run = is.run }
 
-pub budget-replies : (old new : Outside) (asked : Asked) (status : Status) → IsWithin asked
+pub budget-replies : (old new : Outside) (asked : Request) (status : Status) → IsWithin asked
     → Replies old asked status new → OfRuns (λ job guest trace. length trace ≤ job.budget) old asked status new
 budget-replies = of_runs (λ job guest trace. length trace ≤ job.budget) (λ job program input run can.
-    subst (λ (g : Guest). length run.trace ≤ g.options.budget) run.guest_is
+    subst (λ (g : Program). length run.trace ≤ g.options.budget) run.guest_is
     (budget.within_budget run.guest run.trace run.stop run.is))
 
-pub IsOwnRows-replies : (old new : Outside) (asked : Asked) (status : Status) → IsWithin asked
+pub IsOwnRows-replies : (old new : Outside) (asked : Request) (status : Status) → IsWithin asked
     → Replies old asked status new → IsOwnRows old asked status new
 IsOwnRows-replies = of_runs _ (λ job program input run can earlier segment later thread cut.
     own_last run.guest.syms thread (steps_of run.trace) earlier segment later
     (have_stacks run.guest can run.trace (makes_of run.guest run.trace run.stop run.is)) cut)
 
-pub IsWaits-replies : (old new : Outside) (asked : Asked) (status : Status) → IsWithin asked
+pub IsWaits-replies : (old new : Outside) (asked : Request) (status : Status) → IsWithin asked
     → Replies old asked status new → IsWaits old asked status new
 IsWaits-replies = of_runs _ (λ job program input run can counts. others_of_run run.guest can run.trace run.stop run.is)
 
-pub IsContexts-replies : (old new : Outside) (asked : Asked) (status : Status) → IsWithin asked
+pub IsContexts-replies : (old new : Outside) (asked : Request) (status : Status) → IsWithin asked
     → Replies old asked status new → IsContexts old asked status new
 IsContexts-replies = of_runs _ (λ job program input run can callers counts.
     let makes = makes_of run.guest run.trace run.stop run.is in (
@@ -226,7 +226,7 @@ IsContexts-replies = of_runs _ (λ job program input run can callers counts.
           rows inside sums,
     ))
 
-pub IsAddresses-replies : (old new : Outside) (asked : Asked) (status : Status) → IsWithin asked
+pub IsAddresses-replies : (old new : Outside) (asked : Request) (status : Status) → IsWithin asked
     → Replies old asked status new → IsAddresses old asked status new
 IsAddresses-replies = of_runs _ (λ job program input run can counts.
     let makes = makes_of run.guest run.trace run.stop run.is in (

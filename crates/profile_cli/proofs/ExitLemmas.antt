@@ -6,7 +6,7 @@ use Rattle.std.specs.declared.io.Error.{Error}
 use Rattle.std.specs.declared.vec.IntoIter.{IntoIter}
 use Rattle.command_status.specs.Numbers.{number_of}
 use Rattle.command_status.specs.declared.status.Status.{Status}
-use Rattle.command_words.specs.Asked.{asked}
+use Rattle.command_words.specs.Request.{read_request}
 use Rattle.outside.specs.Outside.{Outside}
 use Rattle.profile_cli.specs.Exit.{ExitsWith}
 use Rattle.profile_cli.specs.inner.ProcessWords.{AreWords}
@@ -16,11 +16,11 @@ use Rattle.profile_cli.specs.Profile.{IsReply}
 pub exits_replied : (M : Type 0) (old new : Outside) (args : Result (IntoIter (String Global) Global) Error)
     (words : Vec (String Global) Global) (given : List (String Global)) (status : Status) (number : ℕ)
     → AreWords {M = M} args (Ok words) → given ≡ words.items → number ≡ number_of status
-    → IsReply old (asked (map (λ word. string_bytes word) given)) status new → ExitsWith old args number new
+    → IsReply old (read_request (map (λ word. string_bytes word) given)) status new → ExitsWith old args number new
 exits_replied M old new (Ok args) words given status number are is number_is reply =
     inl (record {
       status = status;
-      reply = subst (λ ws. IsReply old (asked (map (λ word. string_bytes word) ws)) status new) (is ∙ are) reply;
+      reply = subst (λ ws. IsReply old (read_request (map (λ word. string_bytes word) ws)) status new) (is ∙ are) reply;
       number_is = number_is;
     })
 exits_replied M old new (Err error) words given status number are is number_is reply =
@@ -28,7 +28,7 @@ exits_replied M old new (Err error) words given status number are is number_is r
       are.0,
       record {
         status = status;
-        reply = subst (λ ws. IsReply old (asked (map (λ word. string_bytes word) ws)) status new) (is ∙ are.1) reply;
+        reply = subst (λ ws. IsReply old (read_request (map (λ word. string_bytes word) ws)) status new) (is ∙ are.1) reply;
         number_is = number_is;
       },
     )

@@ -4,7 +4,7 @@ use Rattle.std.specs.List.{AllByRecursion}
 use Rattle.std.proofs.lemmas.Option.{none-some}
 use Rattle.outside.specs.Outside.{nothing}
 use Rattle.command_status.specs.declared.status.Status.{Status}
-use Rattle.command_steps.specs.Gates.{Gate, Outcome, check, first_stop, or_next, passed}
+use Rattle.command_steps.specs.Gates.{Gate, Outcome, check, first_stop, or_next, gates_outcome}
 
 -- the outcome where checks stop the work, or let it go on
 abbrev pub unless_stopped : Option Status → Outcome → Outcome
@@ -12,15 +12,15 @@ unless_stopped (Some status) after = record { status = status; output = nothing 
 unless_stopped None after = after
 
 -- five checks before other gates
-pub passed-five_checks : (a b c d e : Option Status) (gates : List Gate) (last : Status)
-    → passed (check a ∷ check b ∷ check c ∷ check d ∷ check e ∷ gates) last
-    ≡ unless_stopped (first_stop (check a ∷ check b ∷ check c ∷ check d ∷ check e ∷ [])) (passed gates last)
-passed-five_checks (Some a) b c d e gates last = refl
-passed-five_checks None (Some b) c d e gates last = refl
-passed-five_checks None None (Some c) d e gates last = refl
-passed-five_checks None None None (Some d) e gates last = refl
-passed-five_checks None None None None (Some e) gates last = refl
-passed-five_checks None None None None None gates last = refl
+pub gates_outcome-five_checks : (a b c d e : Option Status) (gates : List Gate) (last : Status)
+    → gates_outcome (check a ∷ check b ∷ check c ∷ check d ∷ check e ∷ gates) last
+    ≡ unless_stopped (first_stop (check a ∷ check b ∷ check c ∷ check d ∷ check e ∷ [])) (gates_outcome gates last)
+gates_outcome-five_checks (Some a) b c d e gates last = refl
+gates_outcome-five_checks None (Some b) c d e gates last = refl
+gates_outcome-five_checks None None (Some c) d e gates last = refl
+gates_outcome-five_checks None None None (Some d) e gates last = refl
+gates_outcome-five_checks None None None None (Some e) gates last = refl
+gates_outcome-five_checks None None None None None gates last = refl
 
 -- where no gate stops, each is passed
 pub all_pass : (gates : List Gate) → first_stop gates ≡ None → AllByRecursion (λ (gate : Gate). gate.stops ≡ None) gates

@@ -7,7 +7,7 @@ use Rattle.outside.specs.Write.{taken_more}
 use Rattle.command_status.specs.Lines.{message_of}
 use Rattle.command_status.specs.Numbers.{is_short}
 use Rattle.command_status.specs.declared.status.Status.{Status}
-use Rattle.command_words.specs.Asked.{Asked, Job, Report, View}
+use Rattle.command_words.specs.Request.{Request, Job, Report, View}
 use Rattle.command_words.specs.Within.{IsJob, IsOfReport, IsWithin}
 use Rattle.profile_cli.specs.Headline.{IsHeadline}
 use Rattle.profile_cli.specs.OwnReport.{reporting_own}
@@ -30,24 +30,24 @@ reported_or_short old new job view status within own replies contents told long 
     by (loading_on IsShort old job replies.found (record new { err = replies.err })
     (IsWorked old job view replies.found (record new { err = replies.err }))
     replies.works.course (loading_short job replies.works.course)
-    (reporting_own replies.works.course.read replies.works.course.shown)
+    (reporting_own replies.works.course.profile replies.works.course.report)
     (λ program_none elf_none input_none at.
     run_on old job view own contents told within replies.found
     (record new { err = replies.err }) IsShort refl
     (λ name rose. refl) (λ rose. refl) replies.works.course
     program_none elf_none input_none (λ syms refused output runs. fault_short job.base refused) replies.works.met.0
     replies.works.met.1 at)
-    (record { status_is = replies.works.status_is; left = replies.works.leaves }))
+    (record { status_is = replies.works.status_is; leaves = replies.works.leaves }))
   where
     by : IsShort replies.found ⊎ IsWorked old job view replies.found (record new { err = replies.err })
         → IsReported old new job view status replies
     by (inl short) = absurd (work_short replies.found status replies.err new.err replies.says short long)
     by (inr w) =
         let said =
-        line_written replies.found status replies.err new.err replies.says w.ran.run.stop.end w.ran.status_is long in
+        line_written replies.found status replies.err new.err replies.says w.run.run.stop.end w.run.status_is long in
         record { worked = w; status_is = said.0; written = said.1 }
 
-pub IsHeadline-replies : (old new : Outside) (asked : Asked) (status : Status) → IsWithin asked
+pub IsHeadline-replies : (old new : Outside) (asked : Request) (status : Status) → IsWithin asked
     → Replies old asked status new → IsHeadline old asked status new
 IsHeadline-replies old new asked status within replies = λ files job view is told long.
     let reply = subst (λ a. Replies old a status new) is replies in

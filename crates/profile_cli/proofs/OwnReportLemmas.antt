@@ -15,26 +15,26 @@ use Rattle.profile_files.specs.Joined.{no_rows}
 use Rattle.profile_files.specs.Reading.{IsReading}
 use Rattle.profile_files.specs.declared.fault.ReadFault.{ReadFault}
 use Rattle.profile_files.proofs.ReadingLemmas.{IsReading-within}
-use Rattle.profile_run.specs.Runs.{Ended}
+use Rattle.profile_run.specs.Runs.{RunEnd}
 use Rattle.profile_run.specs.declared.run_end.PartFile.{PartFile}
 use Rattle.report_laws.specs.Exact.{parts_wanted}
 use Rattle.command_status.specs.Ends.{end_status}
 use Rattle.command_status.specs.declared.status.Status.{Status}
 use Rattle.command_status.specs.declared.status.Status.TheVariants.{Usage}
-use Rattle.command_words.specs.Asked.{Job, Report, View}
+use Rattle.command_words.specs.Request.{Job, Report, View}
 use Rattle.command_words.specs.Within.{IsSortShown}
-use Rattle.command_steps.specs.Annotate.{IsShown, IsTaken, Shown, reporting, sort_fault, text_of}
-use Rattle.command_steps.specs.Stages.{met}
+use Rattle.command_steps.specs.Annotate.{IsShown, IsTaken, ReportOutcome, reporting, sort_fault, text_of}
+use Rattle.command_steps.specs.Stages.{final_status}
 use Rattle.profile_cli.specs.Course.{Course}
-use Rattle.command_steps.specs.Gates.{Outcome, at_gate, check, passed}
+use Rattle.command_steps.specs.Gates.{Outcome, at_gate, check, gates_outcome}
 use Rattle.command_steps.specs.Loading.{input_limit}
 use Rattle.profile_cli.specs.Order.{program_limit}
-use Rattle.profile_cli.specs.OwnReport.{listed, once_put, reporting_own}
+use Rattle.profile_cli.specs.OwnReport.{parts_to_read, once_put, reporting_own}
 use Rattle.profile_cli.specs.Reply.{IsRun, Works}
 use Rattle.profile_cli.specs.Watching.{parts_asked}
 use Rattle.profile_cli.specs.Words.{program_of}
 use Rattle.command_steps.specs.ReportStages.{HasEvents, ReadsFiles, ShowsReport, report_status}
-use Rattle.profile_cli.specs.inner.RunStages.{IsAny, RanToEnd, ended}
+use Rattle.profile_cli.specs.inner.RunStages.{IsAny, RanToEnd, end_result}
 use Rattle.profile_cli.proofs.LoadLemmas.{IsLoadIf-within}
 use Rattle.profile_cli.proofs.OutsideLemmas.{Leaves-nothing}
 use Rattle.command_steps.proofs.ReportLemmas.{texts_within}
@@ -78,23 +78,23 @@ own_sorted : (p : Contents) (events : List (List ℕ)) (sort : Option (List ℕ)
 own_sorted p events None has is = refl
 own_sorted p events (Some event) has is = ap (λ (b : Bool). if b then None else Some Usage) (has event is)
 
-module _ (old mid : Outside) (job : Job) (view : View) (run : Ended)
+module _ (old mid : Outside) (job : Job) (view : View) (run : RunEnd)
     (ran : RanToEnd (parts_asked job.watching) IsAny old job run mid) where
   abbrev last : Status
   last = end_status run.end
 
-  abbrev met_with : Result Contents ReadFault → Option Shown → Course
-  met_with read shown = record (met_to_end old mid job run ran) { read = read; shown = shown }
+  abbrev met_with : Result Contents ReadFault → Option ReportOutcome → Course
+  met_with read shown = record (met_to_end old mid job run ran) { profile = read; report = shown }
 
   -- the run came to its end, whatever was loaded after it
-  still_run : (new : Outside) (read : Result Contents ReadFault) (shown : Option Shown)
+  still_run : (new : Outside) (read : Result Contents ReadFault) (shown : Option ReportOutcome)
       → mid.load_faults ≤ new.load_faults → IsRun (parts_asked job.watching) old job (met_with read shown) new
   still_run new read shown late = record {
     program = IsLoadIf-within old.files (Some (program_of job.args)) program_limit old.load_faults old.load_faults
         mid.load_faults new.load_faults (Ok ran.program) (omega arith) late ran.load;
     input = IsLoadIf-within old.files job.input input_limit old.load_faults old.load_faults mid.load_faults
         new.load_faults (Ok ran.input) (omega arith) late ran.fed;
-    ran = (ran.symbols, ran.sound, (ran.fits, ran.whole));
+    run = (ran.symbols, ran.sound, (ran.fits, ran.whole));
   }
 
   still_read : (later new : Outside) (answer : Result Contents ReadFault)
@@ -102,20 +102,20 @@ module _ (old mid : Outside) (job : Job) (view : View) (run : Ended)
       (parts_wanted job.base run.parts) answer
       → new.files ≡ mid.files → old.load_faults ≤ mid.load_faults → later.load_faults ≤ new.load_faults
       → IsReading new.files old.load_faults new.load_faults (no_rows (events_shown job.branches event_names))
-      (listed job (Ok run)) answer
+      (parts_to_read job (Ok run)) answer
   still_read later new answer reading same early late =
       subst (λ files. IsReading files old.load_faults new.load_faults (no_rows (events_shown job.branches event_names))
       (parts_wanted job.base run.parts) answer) (sym same)
       (IsReading-within mid.files old.load_faults mid.load_faults later.load_faults new.load_faults
       (no_rows (events_shown job.branches event_names)) (parts_wanted job.base run.parts) answer early late reading)
 
-  works_on : (new : Outside) (read : Result Contents ReadFault) (shown : Option Shown) (status : Status)
+  works_on : (new : Outside) (read : Result Contents ReadFault) (shown : Option ReportOutcome) (status : Status)
       (next : Output)
       → mid.load_faults ≤ new.load_faults
       → IsReading new.files old.load_faults new.load_faults (no_rows (events_shown job.branches event_names))
-      (listed job (Ok run)) read
+      (parts_to_read job (Ok run)) read
       → IfOk read IsProfile → IfSome shown (λ s. IfOk read (λ p. IsShown (once_put old new) view p new s))
-      → passed (reporting_own read shown) last ≡ record { status = status; output = next }
+      → gates_outcome (reporting_own read shown) last ≡ record { status = status; output = next }
       → Leaves old (and_then ran.output next) new → Works old (Report job view) status new
   works_on new read shown status next late reading profile shows comes leaves =
       let all = past_run old mid job run ran (reporting_own read shown) last
@@ -146,7 +146,7 @@ module _ (old mid : Outside) (job : Job) (view : View) (run : Ended)
       (Leaves-then old mid new ran.output nothing no_put_refused refl refl ran.leaves
       (Leaves-nothing mid new same (ap (λ (s : Stream). s.taken) out) (ap (λ (s : Stream). s.taken) err)) same)
 
-  shown_own : (later new : Outside) (p : Contents) (shown : Option Shown)
+  shown_own : (later new : Outside) (p : Contents) (shown : Option ReportOutcome)
       → new.files ≡ later.files → old.load_faults ≤ later.load_faults → old.out.faults ≤ later.out.faults
       → IfSome shown (IsShown later view p new) → IfSome shown (IsShown (once_put old new) view p new)
   shown_own later new p None same early out is = tt
@@ -170,32 +170,32 @@ module _ (old mid : Outside) (job : Job) (view : View) (run : Ended)
       → Works old (Report job view) (report_status last result) new
   Works-reported later new p result reading profile events sorted same out err first second third faults shows =
       let none = own_sorted p (events_shown job.branches event_names) view.sort events sorted in
-      works_on new (Ok p) shows.shown (report_status last result) shows.output (omega (arith, second, third))
+      works_on new (Ok p) shows.report (report_status last result) shows.output (omega (arith, second, third))
       (still_read later new (Ok p) reading (shows.same_files ∙ same) first third) profile
-      (shown_own later new p shows.shown shows.same_files (omega (arith, first, second))
+      (shown_own later new p shows.report shows.same_files (omega (arith, first, second))
       (subst (λ (s : Stream). old.out.faults ≤ s.faults) (sym out) faults) shows.is)
-      (ap (λ s. passed (check s ∷ reporting shows.shown) last) (sym none) ∙ shows.comes last)
+      (ap (λ s. gates_outcome (check s ∷ reporting shows.report) last) (sym none) ∙ shows.comes last)
       (Leaves-then old later new ran.output shows.output no_put_refused shows.puts shows.refused
       (Leaves-later old mid later ran.output same out err ran.leaves) shows.leaves shows.same_files)
 
 -- the end of a run, as its fields have it
-pub Works-ended : (old new : Outside) (job : Job) (view : View) (run inside : Ended) → run ≡ inside
+pub Works-ended : (old new : Outside) (job : Job) (view : View) (run inside : RunEnd) → run ≡ inside
     → Works old (Report job view) (end_status run.end) new → Works old (Report job view) (end_status inside.end) new
 Works-ended old new job view run inside same works =
-    subst (λ (r : Ended). Works old (Report job view) (end_status r.end) new) same works
+    subst (λ (r : RunEnd). Works old (Report job view) (end_status r.end) new) same works
 
 -- the parts that a run lists
 pub of_parts : (told : Option Files) (before now : ℕ) (events : List (List ℕ)) (base : List ℕ)
-    (parts listed : List PartFile) (result : Result Contents Status) → listed ≡ parts
-    → ReadsFiles told before now events (parts_wanted base listed) result
+    (parts parts_to_read : List PartFile) (result : Result Contents Status) → parts_to_read ≡ parts
+    → ReadsFiles told before now events (parts_wanted base parts_to_read) result
     → ReadsFiles told before now events (parts_wanted base parts) result
-of_parts told before now events base parts listed result same reads =
+of_parts told before now events base parts parts_to_read result same reads =
     subst (λ ps. ReadsFiles told before now events (parts_wanted base ps) result) same reads
 
 -- a stage stopped the work
 pub Works-report_exit : (old new : Outside) (job : Job) (view : View) (stop : Status) (result : Result End Status)
     → IsErrAnd result (λ status. status ≡ stop)
-    → Works old (Report job view) stop new → Works old (Report job view) (met (ended result)) new
+    → Works old (Report job view) stop new → Works old (Report job view) (final_status (end_result result)) new
 Works-report_exit old new job view stop (Ok end) none works = absurd none
 Works-report_exit old new job view stop (Err status) is works =
     subst (λ s. Works old (Report job view) s new) (sym is) works

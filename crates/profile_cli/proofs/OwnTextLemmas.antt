@@ -4,9 +4,9 @@ use Rattle.std.proofs.Common.{List, refl, sym, subst}
 use Rattle.std.specs.List.{AllByRecursion}
 use Rattle.cg_read.specs.Profiles.{Contents, IsProfile}
 use Rattle.profile_files.specs.Joined.{Joins}
-use Rattle.profile_run.specs.Guest.{Guest, head_of_run, CanRun}
+use Rattle.profile_run.specs.Program.{Program, head_of_run, CanRun}
 use Rattle.profile_run.specs.Parts.{Writing, plain_parts}
-use Rattle.profile_run.specs.Trace.{Makes, Stop, Taken, steps_of}
+use Rattle.profile_run.specs.Trace.{Makes, Stop, RunStep, steps_of}
 use Rattle.reads_back.specs.Joined.{no_rows_of}
 use Rattle.reads_back.proofs.AllPartsLemmas.{IsPartText, each_text}
 use Rattle.run_laws.specs.OwnParts.{texts_of_files}
@@ -16,18 +16,18 @@ use Rattle.run_laws.proofs.PartLemmas.{are_parts, texts_same}
 use Rattle.run_laws.specs.Addresses.{addr_parts}
 use Rattle.report_laws.specs.Rows.{AreEntriesSmall}
 use Rattle.report_laws.proofs.AddrOwnLemmas.{joined_stands, texts_again}
-use Rattle.command_words.specs.Asked.{Addresses, Contexts, Nothing, Waits, Watching}
+use Rattle.command_words.specs.Request.{Addresses, Contexts, Nothing, Waits, Watching}
 use Rattle.command_words.specs.Within.{IsOfReport}
 use Rattle.profile_cli.specs.Watching.{parts_asked}
 use Rattle.profile_cli.proofs.ReadBackLemmas.{IsReadAs}
 
 -- No part is refused for its lines or its events, and a profile to which all are joined is read as the run.
-pub record AreReadAgain (parts : Guest → Writing) : Type 0 where
-  pub texts : (guest : Guest) → CanRun guest → AreEntriesSmall guest.syms → (trace : List Taken) → Makes guest trace
+pub record AreReadAgain (parts : Program → Writing) : Type 0 where
+  pub texts : (guest : Program) → CanRun guest → AreEntriesSmall guest.syms → (trace : List RunStep) → Makes guest trace
       → (stop : Stop)
       → AllByRecursion (IsPartText (head_of_run guest))
       (texts_of_files ((parts guest).whole (steps_of trace) stop.tried))
-  pub read : (guest : Guest) → CanRun guest → AreEntriesSmall guest.syms → (trace : List Taken) → Makes guest trace
+  pub read : (guest : Program) → CanRun guest → AreEntriesSmall guest.syms → (trace : List RunStep) → Makes guest trace
       → (stop : Stop) (q : Contents) → IsProfile q
       → Joins (no_rows_of (head_of_run guest)) (texts_of_files ((parts guest).whole (steps_of trace) stop.tried)) q
       → IsReadAs guest trace q

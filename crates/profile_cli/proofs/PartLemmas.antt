@@ -6,19 +6,19 @@ use Rattle.elf_read.specs.Refusal.{refusal}
 use Rattle.sym_map.specs.SymbolMap.{IsSound, SymbolMap}
 use Rattle.part_dump.specs.Watching.{Meaning}
 use Rattle.outside.specs.Load.{bytes_of}
-use Rattle.profile_run.specs.Guest.{Guest, CanRun}
+use Rattle.profile_run.specs.Program.{Program, CanRun}
 use Rattle.profile_run.specs.Parts.{ArePartsOf, Writing, watched_parts}
-use Rattle.profile_run.specs.Runs.{Does, Ended, Runs}
-use Rattle.profile_run.specs.Trace.{IsTraceOf, Stop, Taken, steps_of}
+use Rattle.profile_run.specs.Runs.{Does, RunEnd, Runs}
+use Rattle.profile_run.specs.Trace.{IsTraceOf, Stop, RunStep, steps_of}
 use Rattle.profile_run.specs.declared.run_fault.RunFault.{RunFault}
 use Rattle.ctx_rows.specs.States as contexts
 use Rattle.ctx_rows.specs.Watching as ctx
 use Rattle.run_laws.specs.Contexts.{ctx_parts}
 use Rattle.run_laws.proofs.AnswerLemmas as ctx_runs
 use Rattle.command_status.specs.declared.status.Status.{Status}
-use Rattle.command_words.specs.Asked.{Job}
+use Rattle.command_words.specs.Request.{Job}
 use Rattle.command_words.specs.Within.{IsJob}
-use Rattle.profile_cli.specs.Course.{Course, Ran}
+use Rattle.profile_cli.specs.Course.{Course, RunOutcome}
 use Rattle.profile_cli.specs.Order.{elf_fault, program_limit}
 use Rattle.profile_cli.specs.Words.{program_of}
 use Rattle.profile_cli.specs.Program.{guest_of}
@@ -31,16 +31,16 @@ use Rattle.profile_cli.proofs.PastRunLemmas.{accepted_is}
 use Rattle.profile_cli.proofs.StageLemmas.{then_on}
 
 -- a watch whose parts are these in every run
-module _ {W : Type 0} (meaning : Meaning W) (first : W) (parts : Guest → Writing)
-    (runs : (guest : Guest) → CanRun guest → (old : Outside) (answer : Result Ended RunFault) (output : Output)
+module _ {W : Type 0} (meaning : Meaning W) (first : W) (parts : Program → Writing)
+    (runs : (guest : Program) → CanRun guest → (old : Outside) (answer : Result RunEnd RunFault) (output : Output)
     (new : Outside) → Runs (watched_parts meaning first guest) guest old answer output new
     → Runs (parts guest) guest old answer output new)
-    (does : (guest : Guest) → CanRun guest → (answer : Result Ended RunFault) (log : Log)
+    (does : (guest : Program) → CanRun guest → (answer : Result RunEnd RunFault) (log : Log)
     → Does (watched_parts meaning first guest) guest answer log → Does (parts guest) guest answer log)
-    (wholes : (guest : Guest) → CanRun guest → (trace : List Taken) (stop : Stop) → IsTraceOf guest trace stop
+    (wholes : (guest : Program) → CanRun guest → (trace : List RunStep) (stop : Stop) → IsTraceOf guest trace stop
     → (watched_parts meaning first guest).whole (steps_of trace) stop.tried
     ≡ (parts guest).whole (steps_of trace) stop.tried)
-    (IsSo : Guest → Type 0) (old : Outside) (job : Job) (new : Outside) (within : IsJob job) where
+    (IsSo : Program → Type 0) (old : Outside) (job : Job) (new : Outside) (within : IsJob job) where
   can_run : (program input : List ℕ) (syms : SymbolMap) → elf_fault program ≡ None → IsSound syms
       → CanRun (guest_of job (image_of program) input syms)
   can_run program input syms accepted sound = record {
@@ -51,7 +51,7 @@ module _ {W : Type 0} (meaning : Meaning W) (first : W) (parts : Guest → Writi
   }
 
   -- what stopped the work
-  ran_on : (met : Course) (ran : Option Ran) → IfSome ran (IsRan (watched_parts meaning first) old job met new)
+  ran_on : (met : Course) (ran : Option RunOutcome) → IfSome ran (IsRan (watched_parts meaning first) old job met new)
       → IfSome ran (λ r. elf_fault (bytes_of met.program) ≡ None)
       → IfSome ran (IsRan parts old job met new)
   ran_on met None known accepted = tt
@@ -64,7 +64,7 @@ module _ {W : Type 0} (meaning : Meaning W) (first : W) (parts : Guest → Writi
   )
 
   -- and what was told of it
-  ended : (guest : Guest) → CanRun guest → (stop : Result Ended RunFault)
+  ended : (guest : Program) → CanRun guest → (stop : Result RunEnd RunFault)
       → IfOk stop (IsEndOf (watched_parts meaning first guest) guest) → IfOk stop (IsEndOf (parts guest) guest)
   ended guest can (Ok run) e = record {
     trace = e.trace;
@@ -76,7 +76,7 @@ module _ {W : Type 0} (meaning : Meaning W) (first : W) (parts : Guest → Writi
   }
   ended guest can (Err refused) e = tt
 
-  run_on : (program input : List ℕ) (log : Log) (result : Result (Guest × Ended) Status) → elf_fault program ≡ None
+  run_on : (program input : List ℕ) (log : Log) (result : Result (Program × RunEnd) Status) → elf_fault program ≡ None
       → stage.Runs (watched_parts meaning first) job program input log result
       → stage.Runs parts job program input log result
   run_on program input log result accepted (inl wants) = inl wants
@@ -92,13 +92,13 @@ module _ {W : Type 0} (meaning : Meaning W) (first : W) (parts : Guest → Writi
         comes = has.comes;
       })
 
-  abbrev feeds : (Guest → Writing) → List ℕ → Log → Result (Guest × Ended) Status → Type 0
+  abbrev feeds : (Program → Writing) → List ℕ → Log → Result (Program × RunEnd) Status → Type 0
   feeds writes program = Then (LoadsIf job.input) (stage.Runs writes job program)
 
-  abbrev accepts : (Guest → Writing) → List ℕ → Log → Result (Guest × Ended) Status → Type 0
+  abbrev accepts : (Program → Writing) → List ℕ → Log → Result (Program × RunEnd) Status → Type 0
   accepts writes program = Then (Quiet (Passes (elf_fault program))) (λ passed. feeds writes program)
 
-  told_on : (result : Result (Guest × Ended) Status)
+  told_on : (result : Result (Program × RunEnd) Status)
       → Did (LoadsAndRuns (watched_parts meaning first) job) old result new
       → Did (LoadsAndRuns parts job) old result new
   told_on result did = record {
@@ -112,7 +112,7 @@ module _ {W : Type 0} (meaning : Meaning W) (first : W) (parts : Guest → Writi
     tells = did.tells;
   }
 
-  pub RunsJob-parts : (result : Result Ended Status) → RunsJob (watched_parts meaning first) IsSo old job result new
+  pub RunsJob-parts : (result : Result RunEnd Status) → RunsJob (watched_parts meaning first) IsSo old job result new
       → RunsJob parts IsAny old job result new
   RunsJob-parts (Ok run) ran = record {
     program = ran.program;
@@ -131,7 +131,7 @@ module _ {W : Type 0} (meaning : Meaning W) (first : W) (parts : Guest → Writi
         (ran.fits, ran.whole)).1;
     so = tt;
     leaves = ran.leaves;
-    told = told_on (Ok (guest_of job (image_of ran.program) ran.input ran.syms, run)) ran.told;
+    did = told_on (Ok (guest_of job (image_of ran.program) ran.input ran.syms, run)) ran.did;
   }
   RunsJob-parts (Err status) (stops, told) = (
     record {
@@ -140,7 +140,7 @@ module _ {W : Type 0} (meaning : Meaning W) (first : W) (parts : Guest → Writi
       is = record {
         program = stops.is.program;
         input = stops.is.input;
-        ran = ran_on stops.met stops.met.ran stops.is.ran stops.accepted;
+        run = ran_on stops.met stops.met.run stops.is.run stops.accepted;
       };
       accepted = stops.accepted;
       comes = stops.comes;
@@ -149,8 +149,8 @@ module _ {W : Type 0} (meaning : Meaning W) (first : W) (parts : Guest → Writi
     told_on (Err status) told,
   )
 
-pub RunsJob-contexts : (first : contexts.State) → ctx.IsFresh first → (IsSo : Guest → Type 0) (old : Outside)
-    (job : Job) (new : Outside) → IsJob job → (result : Result Ended Status)
+pub RunsJob-contexts : (first : contexts.CtxState) → ctx.IsFresh first → (IsSo : Program → Type 0) (old : Outside)
+    (job : Job) (new : Outside) → IsJob job → (result : Result RunEnd Status)
     → RunsJob (watched_parts ctx.by_context first) IsSo old job result new
     → RunsJob (ctx_parts first.callers) IsAny old job result new
 RunsJob-contexts first fresh IsSo old job new within result known =

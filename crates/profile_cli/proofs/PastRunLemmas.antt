@@ -21,12 +21,12 @@ use Rattle.outside.specs.Load.{Load, bytes_of}
 use Rattle.outside.specs.declared.folder.LoadError.TheVariants as load
 use Rattle.event_costs.specs.Costs.{event_names, events_shown}
 use Rattle.profile_files.specs.Reading.{IsReading}
-use Rattle.profile_files.specs.Wanted.{Wanted}
+use Rattle.profile_files.specs.WantedFile.{WantedFile}
 use Rattle.profile_files.specs.declared.fault.ReadFault.{ReadFault}
-use Rattle.profile_run.specs.Guest.{Guest, head_of_run, CanRun}
+use Rattle.profile_run.specs.Program.{Program, head_of_run, CanRun}
 use Rattle.profile_run.specs.Parts.{ArePartsOf, Writing}
-use Rattle.profile_run.specs.Runs.{Ended, IsWhole, Runs}
-use Rattle.profile_run.specs.Trace.{Makes, sent, steps_of}
+use Rattle.profile_run.specs.Runs.{RunEnd, IsWhole, Runs}
+use Rattle.profile_run.specs.Trace.{Makes, sent_bytes, steps_of}
 use Rattle.profile_run.specs.declared.run_fault.RunFault.{RunFault}
 use Rattle.reads_back.specs.Joined.{no_rows_of}
 use Rattle.run_laws.specs.OwnParts.{IsOwnFault, with_their_lengths}
@@ -37,19 +37,19 @@ use Rattle.command_status.specs.Ends.{end_status}
 use Rattle.command_status.specs.Lines.{message_of}
 use Rattle.command_status.specs.declared.status.Status.{Status}
 use Rattle.command_status.specs.declared.status.Status.TheVariants.{LoadFault, OutFault, OutOfMemory}
-use Rattle.command_words.specs.Asked.{Job, View}
+use Rattle.command_words.specs.Request.{Job, View}
 use Rattle.command_words.specs.Within.{IsJob, IsOfReport}
 use Rattle.command_steps.specs.Annotate.{IsMade, IsShown, IsTaken, read_fault, read_status, report_fault}
 use Rattle.command_steps.specs.Annotate.{report_options, reporting, text_of, write_fault, AreTextsFor, IsSortPlace}
-use Rattle.command_steps.specs.Annotate.{Shown}
-use Rattle.profile_cli.specs.Course.{Course, Ran}
+use Rattle.command_steps.specs.Annotate.{ReportOutcome}
+use Rattle.profile_cli.specs.Course.{Course, RunOutcome}
 use Rattle.command_steps.specs.Loading.{IsLoadIf, input_fault, input_limit, load_fault}
-use Rattle.command_steps.specs.Gates.{Outcome, at_gate, passed}
+use Rattle.command_steps.specs.Gates.{Outcome, at_gate, gates_outcome}
 use Rattle.profile_cli.specs.HasRun.{HasRun}
 use Rattle.profile_cli.specs.Headline.{IsExactReport, ReportOn}
 use Rattle.profile_cli.specs.Order.{elf_fault, elf_status, fault_status, last_status, program_limit, run_fault}
 use Rattle.profile_cli.specs.Order.{run_gate, run_status}
-use Rattle.profile_cli.specs.OwnReport.{IsReported, listed, once_put, reporting_own}
+use Rattle.profile_cli.specs.OwnReport.{IsReported, parts_to_read, once_put, reporting_own}
 use Rattle.profile_cli.specs.Program.{IsMapOf, guest_of}
 use Rattle.profile_cli.specs.Reply.{IsRan, IsRun, guest_met}
 use Rattle.profile_cli.specs.Watching.{parts_asked}
@@ -71,35 +71,35 @@ quiet_gate (Some stop) rest quiet = record { files = refl; refused = refl }
 quiet_gate None rest quiet = record { files = quiet.files; refused = quiet.refused }
 
 pub quiet_write : (stops : Option Status) (bytes : List ℕ) (last : Status)
-    → IsQuiet (at_gate stops (record nothing { out = bytes }) (passed [] last)).output
+    → IsQuiet (at_gate stops (record nothing { out = bytes }) (gates_outcome [] last)).output
 quiet_write (Some stop) bytes last = record { files = refl; refused = refl }
 quiet_write None bytes last = record { files = refl; refused = refl }
 
-quiet_reporting : (shown : Option Shown) (last : Status) → IsQuiet (passed (reporting shown) last).output
+quiet_reporting : (shown : Option ReportOutcome) (last : Status) → IsQuiet (gates_outcome (reporting shown) last).output
 quiet_reporting None last = record { files = refl; refused = refl }
 quiet_reporting (Some s) last =
     quiet_gate (report_fault s.report) _ (quiet_write (write_fault s.written) (take s.count (text_of s.report)) last)
 
-quiet_report : (found : Result Contents ReadFault) (shown : Option Shown) (last : Status)
-    → IsQuiet (passed (reporting_own found shown) last).output
+quiet_report : (found : Result Contents ReadFault) (shown : Option ReportOutcome) (last : Status)
+    → IsQuiet (gates_outcome (reporting_own found shown) last).output
 quiet_report found shown last =
-    quiet_gate (read_fault found) (passed (reporting shown) last) (quiet_reporting shown last)
+    quiet_gate (read_fault found) (gates_outcome (reporting shown) last) (quiet_reporting shown last)
 
 -- ---- behind the run
 
 -- what the work comes to before the line is written
 pub record IsWorked (old : Outside) (job : Job) (view : View) (found : Status) (mid : Outside) : Type 0 where
-  pub ran : HasRun old job found mid
-  pub can : CanRun ran.run.guest
-  pub shown : ReportOn ran.run.guest ran.run.trace view
-  pub sources : AreTextsFor view.auto mid.files old.load_faults mid.load_faults shown.report.profile shown.texts
-  pub out : mid.out.taken ≡ taken_more old.out.taken (sent 1 ran.run.trace ++ shown.text)
-  pub err : mid.err.taken ≡ taken_more old.err.taken (sent 2 ran.run.trace)
+  pub run : HasRun old job found mid
+  pub can : CanRun run.run.guest
+  pub report_on : ReportOn run.run.guest run.run.trace view
+  pub sources : AreTextsFor view.auto mid.files old.load_faults mid.load_faults report_on.report.profile report_on.texts
+  pub out : mid.out.taken ≡ taken_more old.out.taken (sent_bytes 1 run.run.trace ++ report_on.text)
+  pub err : mid.err.taken ≡ taken_more old.err.taken (sent_bytes 2 run.run.trace)
 
 -- the work came to this, after this was put out
 pub record At (old : Outside) (found : Status) (mid : Outside) (before : Output) (after : Outcome) : Type 0 where
   pub status_is : found ≡ after.status
-  pub left : Leaves old (and_then before after.output) mid
+  pub leaves : Leaves old (and_then before after.output) mid
 
 -- ---- what was loaded
 
@@ -130,7 +130,7 @@ module _ (old : Outside) (job : Job) (view : View) (own : IsOfReport job.watchin
   abbrev Goal : Type 0
   Goal = Stops found ⊎ IsWorked old job view found mid
 
-  abbrev parts : Guest → Writing
+  abbrev parts : Program → Writing
   parts = parts_asked job.watching
 
   abbrev back : CanBeReadBack parts
@@ -139,8 +139,8 @@ module _ (old : Outside) (job : Job) (view : View) (own : IsOfReport job.watchin
   module _ (program input : List ℕ)
       (loaded : IsLoad old.files (program_of job.args) program_limit old.load_faults mid.load_faults (Ok program))
       (fed : IsLoadIf old.files job.input input_limit old.load_faults mid.load_faults (Ok input))
-      (syms : SymbolMap) (symbols : IsMapOf (image_of program) syms) (ended : Ended) (output : Output) where
-    abbrev guest : Guest
+      (syms : SymbolMap) (symbols : IsMapOf (image_of program) syms) (ended : RunEnd) (output : Output) where
+    abbrev guest : Program
     guest = guest_of job (image_of program) input syms
 
     module _ (ran : IsWhole (parts guest) guest ended output) (can : CanRun guest) where
@@ -155,20 +155,20 @@ module _ (old : Outside) (job : Job) (view : View) (own : IsOfReport job.watchin
 
       module _ (holds : mid.files ≡ option_map (with_files put) old.files) where
         -- the report is written
-        written_on : (p : Contents) → IsReadAs guest ran.trace p → (s : Shown) (text : List ℕ)
+        written_on : (p : Contents) → IsReadAs guest ran.trace p → (s : ReportOutcome) (text : List ℕ)
             → IsReportOf p (report_options view s.sort) s.texts text → IsSortPlace view.sort p s.sort
             → AreTextsFor view.auto mid.files old.load_faults mid.load_faults p s.texts
             → (written : Result (Unit {0}) WriteError)
             → IsTaken text old.out.faults mid.out.faults s.count written
             → At old found mid output (at_gate (write_fault written) (record nothing { out = take s.count text })
-            (passed [] last))
+            (gates_outcome [] last))
             → Goal
         written_on p is s text reports sorted sources (Err write.Failed) taken at =
             inl (subst Stops (sym at.status_is) (unwritten taken.0))
         written_on p is s text reports sorted sources (Err (write.OutOfMemory memory)) taken at =
             inl (subst Stops (sym at.status_is) wants)
         written_on p is s text reports sorted sources (Ok done) taken at = inr (record {
-          ran = record {
+          run = record {
             program = program;
             loaded = loaded;
             input = input;
@@ -188,26 +188,26 @@ module _ (old : Outside) (job : Job) (view : View) (own : IsOfReport job.watchin
                 (own_files job.watching own guest ran.trace ran.stop);
           };
           can = can;
-          shown = report_on guest can ran.trace makes view p is s.sort s.texts text reports sorted;
+          report_on = report_on guest can ran.trace makes view p is s.sort s.texts text reports sorted;
           sources = texts_over view.auto mid.files old.load_faults mid.load_faults p is.profile s.texts
               is.files sources;
-          out = at.left.out
+          out = at.leaves.out
               ∙ (λ i. taken_more old.out.taken ((ran.output i).out ++ (append-nil (take s.count text) i)))
-              ∙ ap (λ t. taken_more old.out.taken (sent 1 ran.trace ++ t))
+              ∙ ap (λ t. taken_more old.out.taken (sent_bytes 1 ran.trace ++ t))
               (take_all s.count text (omega (arith, taken)));
-          err = at.left.err
+          err = at.leaves.err
               ∙ (λ i. taken_more old.err.taken ((ran.output i).err ++ []))
-              ∙ ap (taken_more old.err.taken) (append-nil (sent 2 ran.trace));
+              ∙ ap (taken_more old.err.taken) (append-nil (sent_bytes 2 ran.trace));
         })
 
         -- the report is made
-        made_on : (p : Contents) → IsReadAs guest ran.trace p → (s : Shown)
+        made_on : (p : Contents) → IsReadAs guest ran.trace p → (s : ReportOutcome)
             → (made : Result (List ℕ) ReportError)
             → IsMade p (report_options view s.sort) s.texts made → IsSortPlace view.sort p s.sort
             → AreTextsFor view.auto mid.files old.load_faults mid.load_faults p s.texts
             → IsTaken (text_of made) old.out.faults mid.out.faults s.count s.written
             → At old found mid output (at_gate (report_fault made) nothing
-            (at_gate (write_fault s.written) (record nothing { out = take s.count (text_of made) }) (passed [] last)))
+            (at_gate (write_fault s.written) (record nothing { out = take s.count (text_of made) }) (gates_outcome [] last)))
             → Goal
         made_on p is s (Err (report.SumLimit position)) over sorted sources taken at =
             absurd (none_first p position
@@ -217,11 +217,11 @@ module _ (old : Outside) (job : Job) (view : View) (own : IsOfReport job.watchin
             inl (subst Stops (sym at.status_is) wants)
         made_on p is s (Ok text) made sorted sources taken at =
             written_on p is s text made.1 sorted sources s.written taken
-            (record { status_is = at.status_is; left = at.left })
+            (record { status_is = at.status_is; leaves = at.leaves })
 
-        shown_on : (p : Contents) → IsReadAs guest ran.trace p → (shown : Option Shown)
+        shown_on : (p : Contents) → IsReadAs guest ran.trace p → (shown : Option ReportOutcome)
             → IfSome shown (λ s. IsShown (once_put old mid) view p mid s)
-            → At old found mid output (passed (reporting shown) last) → Goal
+            → At old found mid output (gates_outcome (reporting shown) last) → Goal
         shown_on p is None known at = inl (subst Stops (sym at.status_is) wants)
         shown_on p is (Some s) known at = made_on p is s s.report known.report known.sort known.texts known.written at
 
@@ -231,7 +231,7 @@ module _ (old : Outside) (job : Job) (view : View) (own : IsOfReport job.watchin
             → IsReading (Some (with_files put contents)) old.load_faults mid.load_faults
             (no_rows_of (head_of_run guest)) (with_their_lengths put) answer
         own_reading answer reading =
-            subst (λ (wanted : List Wanted). IsReading (Some (with_files put contents)) old.load_faults mid.load_faults
+            subst (λ (wanted : List WantedFile). IsReading (Some (with_files put contents)) old.load_faults mid.load_faults
             (no_rows_of (head_of_run guest)) wanted answer)
             (same_parts job.base put ended.parts
             (subst (λ (o : Output). ArePartsOf job.base o.files ended.parts) ran.output ran.parts))
@@ -247,9 +247,9 @@ module _ (old : Outside) (job : Job) (view : View) (own : IsOfReport job.watchin
         read_on : (answer : Result Contents ReadFault)
             → IsReading mid.files old.load_faults mid.load_faults (no_rows_of (head_of_run guest))
             (parts_wanted job.base ended.parts) answer
-            → IfOk answer IsProfile → (shown : Option Shown)
+            → IfOk answer IsProfile → (shown : Option ReportOutcome)
             → IfSome shown (λ s. IfOk answer (λ p. IsShown (once_put old mid) view p mid s))
-            → At old found mid output (passed (reporting_own answer shown) last) → Goal
+            → At old found mid output (gates_outcome (reporting_own answer shown) last) → Goal
         read_on (Err refused) reading profile shown known at =
             inl (subst Stops (sym at.status_is)
             (own_stops refused
@@ -260,7 +260,7 @@ module _ (old : Outside) (job : Job) (view : View) (own : IsOfReport job.watchin
             shown_on p
             (back.read guest can (entries_small (image_of program) syms symbols) ran.trace makes ran.stop contents
             old.load_faults mid.load_faults p profile
-            (own_reading (Ok p) reading)) shown known (record { status_is = at.status_is; left = at.left })
+            (own_reading (Ok p) reading)) shown known (record { status_is = at.status_is; leaves = at.leaves })
 
       -- what the folder holds once the parts were put
       holds_on : (rest : Outcome) → IsQuiet rest.output → At old found mid output rest
@@ -269,7 +269,7 @@ module _ (old : Outside) (job : Job) (view : View) (own : IsOfReport job.watchin
           let P : List Named → Option (List ℕ) → Type 0
           = λ files refused. Holds (output.files ++ files) refused old.files mid.files in
           let all : Holds (output.files ++ []) None old.files mid.files
-          = subst (λ files. P files None) quiet.files (subst (P rest.output.files) quiet.refused at.left.files) in
+          = subst (λ files. P files None) quiet.files (subst (P rest.output.files) quiet.refused at.leaves.files) in
           all ∙ ap (λ files. option_map (with_files files) old.files)
           (append-nil output.files ∙ ap (λ (o : Output). o.files) ran.output)
 
@@ -282,16 +282,16 @@ module _ (old : Outside) (job : Job) (view : View) (own : IsOfReport job.watchin
       → Runs (parts (guest_of job (image_of program) input syms)) (guest_of job (image_of program) input syms) old
       (Err refused) output mid → Stops (fault_status job.base refused))
       → (syms : SymbolMap) (symbols : IsMapOf (image_of program) syms) → IsSound syms
-      → (stop : Result Ended RunFault) (output : Output)
+      → (stop : Result RunEnd RunFault) (output : Output)
       → Runs (parts (guest_of job (image_of program) input syms)) (guest_of job (image_of program) input syms) old
       stop output mid
       → (answer : Result Contents ReadFault)
       → IsReading mid.files old.load_faults mid.load_faults (no_rows (events_shown job.branches event_names))
-      (listed job stop) answer
-      → IfOk answer IsProfile → (shown : Option Shown)
+      (parts_to_read job stop) answer
+      → IfOk answer IsProfile → (shown : Option ReportOutcome)
       → IfSome shown (λ s. IfOk answer (λ p. IsShown (once_put old mid) view p mid s))
       → At old found mid nothing (at_gate (run_fault job.base stop) output
-      (passed (reporting_own answer shown) (run_status job.base stop)))
+      (gates_outcome (reporting_own answer shown) (run_status job.base stop)))
       → Goal
   ran_on program input loaded fed accepted cut syms symbols sound (Err refused) output runs answer reading profile shown
       known at = inl (subst Stops (sym at.status_is) (cut syms refused output runs))
@@ -300,8 +300,8 @@ module _ (old : Outside) (job : Job) (view : View) (own : IsOfReport job.watchin
       at =
       let can : CanRun (guest_of job (image_of program) input syms)
       = record { accepted = accepted; image = refl; sound = sound; budget = within.budget.most_of } in
-      let rest : Outcome = passed (reporting_own answer shown) (end_status ended.end) in
-      let behind : At old found mid output rest = record { status_is = at.status_is; left = at.left } in
+      let rest : Outcome = gates_outcome (reporting_own answer shown) (end_status ended.end) in
+      let behind : At old found mid output rest = record { status_is = at.status_is; leaves = at.leaves } in
       read_on program input loaded fed syms symbols ended output runs.1 can
       (holds_on program input loaded fed syms symbols ended output runs.1 can rest
       (quiet_report answer shown (end_status ended.end)) behind)
@@ -313,14 +313,14 @@ module _ (old : Outside) (job : Job) (view : View) (own : IsOfReport job.watchin
       → ((syms : SymbolMap) (refused : RunFault) (output : Output)
       → Runs (parts (guest_met job met syms)) (guest_met job met syms) old (Err refused) output mid
       → Stops (fault_status job.base refused))
-      → IsRun parts old job met mid → IfSome met.ran (IsReported old job view met mid)
-      → At old found mid nothing (passed (run_gate job met.ran ∷ reporting_own met.read met.shown)
-      (last_status job met.ran)) → Goal
-  run_on met program_none elf_none input_none cut is reported at = by met.ran is.ran reported at
+      → IsRun parts old job met mid → IfSome met.run (IsReported old job view met mid)
+      → At old found mid nothing (gates_outcome (run_gate job met.run ∷ reporting_own met.profile met.report)
+      (last_status job met.run)) → Goal
+  run_on met program_none elf_none input_none cut is reported at = by met.run is.run reported at
     where
-      by : (ran : Option Ran) → IfSome ran (IsRan parts old job met mid)
+      by : (ran : Option RunOutcome) → IfSome ran (IsRan parts old job met mid)
           → IfSome ran (IsReported old job view met mid)
-          → At old found mid nothing (passed (run_gate job ran ∷ reporting_own met.read met.shown)
+          → At old found mid nothing (gates_outcome (run_gate job ran ∷ reporting_own met.profile met.report)
           (last_status job ran)) → Goal
       by None met_ran known at_run = inl (subst Stops (sym at_run.status_is) wants)
       by (Some ran) met_ran known at_run =
@@ -331,7 +331,7 @@ module _ (old : Outside) (job : Job) (view : View) (own : IsOfReport job.watchin
           (fed_is old mid job.input met.input is.input input_none) is.input)
           (accepted_is (refusal (bytes_of met.program)) elf_none)
           cut ran.syms met_ran.0 met_ran.1 ran.stop ran.output
-          met_ran.2 met.read known.reading known.profile met.shown known.report at_run
+          met_ran.2 met.profile known.reading known.profile met.report known.report at_run
 
 -- ---- the line behind it
 
@@ -354,11 +354,11 @@ pub exact_of : (old new : Outside) (job : Job) (view : View) (found status : Sta
     → new.err.taken ≡ taken_more err.taken (message_of found)
     → IsExactReport old job view status new
 exact_of old new job view found status err w is written = record {
-  ran = same_run old new job found status err w.ran is;
-  shown = w.shown;
+  run = same_run old new job found status err w.run is;
+  report_on = w.report_on;
   sources = w.sources;
   out = w.out;
   err = written ∙ ap (λ t. taken_more t (message_of found)) w.err
-      ∙ more_taken old.err.taken (sent 2 w.ran.run.trace) (message_of found)
-      ∙ ap (λ (s : Status). taken_more old.err.taken (sent 2 w.ran.run.trace ++ message_of s)) (sym is);
+      ∙ more_taken old.err.taken (sent_bytes 2 w.run.run.trace) (message_of found)
+      ∙ ap (λ (s : Status). taken_more old.err.taken (sent_bytes 2 w.run.run.trace ++ message_of s)) (sym is);
 }

@@ -15,9 +15,9 @@ use Rattle.annotate.specs.Report.{IsReportOf, SourceTexts}
 use Rattle.report_rows.specs.declared.options.ReportOptions.{ReportOptions}
 use Rattle.profile_files.specs.Reading.{IsReading}
 use Rattle.profile_files.specs.declared.fault.ReadFault.{ReadFault}
-use Rattle.profile_run.specs.Guest.{Guest, head_of_run, CanRun}
+use Rattle.profile_run.specs.Program.{Program, head_of_run, CanRun}
 use Rattle.profile_run.specs.Parts.{Writing, plain_parts}
-use Rattle.profile_run.specs.Trace.{Makes, Stop, Taken, steps_of}
+use Rattle.profile_run.specs.Trace.{Makes, Stop, RunStep, steps_of}
 use Rattle.reads_back.specs.Joined.{no_rows_of}
 use Rattle.run_laws.specs.OwnParts.{IsOwnFault, with_their_lengths}
 use Rattle.run_laws.specs.Profiles.{IsProfileOfRun}
@@ -27,7 +27,7 @@ use Rattle.report_laws.specs.Rows.{AreEntriesSmall}
 use Rattle.report_laws.proofs.AddrOwnLemmas as addresses
 use Rattle.report_laws.proofs.AddrOwnLemmas.{read_stands}
 use Rattle.report_laws.proofs.ReportLemmas.{report_of_run}
-use Rattle.command_words.specs.Asked.{Addresses, Contexts, Nothing, View, Waits, Watching}
+use Rattle.command_words.specs.Request.{Addresses, Contexts, Nothing, View, Waits, Watching}
 use Rattle.command_words.specs.Within.{IsOfReport}
 use Rattle.command_steps.specs.Annotate.{AreTextsFor, IsSortPlace, report_options}
 use Rattle.profile_cli.specs.Headline.{ReportOn}
@@ -36,7 +36,7 @@ use Rattle.profile_cli.specs.Watching.{files_asked, parts_asked}
 use Rattle.profile_cli.proofs.CountLemmas.{counts_of}
 
 -- Reports on it are reports on a profile of all rows of the run, which shows the same events and source files.
-pub record IsReadAs (guest : Guest) (trace : List Taken) (q : Contents) : Type 0 where
+pub record IsReadAs (guest : Program) (trace : List RunStep) (q : Contents) : Type 0 where
   pub profile : Contents
   pub of_run : IsProfileOfRun guest trace profile
   pub events : profile.events ≡ q.events
@@ -47,14 +47,14 @@ pub record IsReadAs (guest : Guest) (trace : List Taken) (q : Contents) : Type 0
 
 -- From a folder into which they were put, the parts of a run are read as such a profile, or a load fails or memory is
 -- wanting.
-pub record CanBeReadBack (parts : Guest → Writing) : Type 0 where
-  pub read : (guest : Guest) → CanRun guest → AreEntriesSmall guest.syms → (trace : List Taken) → Makes guest trace
+pub record CanBeReadBack (parts : Program → Writing) : Type 0 where
+  pub read : (guest : Program) → CanRun guest → AreEntriesSmall guest.syms → (trace : List RunStep) → Makes guest trace
       → (stop : Stop)
       (contents : Files) (before now : ℕ) (q : Contents) → IsProfile q
       → IsReading (Some (with_files ((parts guest).whole (steps_of trace) stop.tried) contents)) before now
       (no_rows_of (head_of_run guest)) (with_their_lengths ((parts guest).whole (steps_of trace) stop.tried)) (Ok q)
       → IsReadAs guest trace q
-  pub refused : (guest : Guest) → CanRun guest → AreEntriesSmall guest.syms → (trace : List Taken) → Makes guest trace
+  pub refused : (guest : Program) → CanRun guest → AreEntriesSmall guest.syms → (trace : List RunStep) → Makes guest trace
       → (stop : Stop)
       (contents : Files) (before now : ℕ) (fault : ReadFault)
       → IsReading (Some (with_files ((parts guest).whole (steps_of trace) stop.tried) contents)) before now
@@ -108,7 +108,7 @@ own_read Waits own = absurd own
 own_read (Contexts callers) own = absurd own
 
 -- are all of its files
-pub own_files : (w : Watching) → IsOfReport w → (guest : Guest) (trace : List Taken) (stop : Stop)
+pub own_files : (w : Watching) → IsOfReport w → (guest : Program) (trace : List RunStep) (stop : Stop)
     → (parts_asked w guest).whole (steps_of trace) stop.tried ≡ files_asked w guest trace stop
 own_files Nothing own guest trace stop = refl
 own_files Addresses own guest trace stop = refl
@@ -129,7 +129,7 @@ texts_over true told before now q p texts over are = (over (map (λ t. t.0) text
 texts_over false told before now q p texts over are = are
 
 -- the report that is made on it
-abbrev pub report_on : (guest : Guest) → CanRun guest → (trace : List Taken) → Makes guest trace → (view : View)
+abbrev pub report_on : (guest : Program) → CanRun guest → (trace : List RunStep) → Makes guest trace → (view : View)
     (p : Contents) → IsReadAs guest trace p → (sort : ℕ) (texts : SourceTexts) (text : List ℕ)
     → IsReportOf p (report_options view sort) texts text → IsSortPlace view.sort p sort → ReportOn guest trace view
 report_on guest can trace makes view p is sort texts text reports sorted = record {
@@ -145,5 +145,5 @@ report_on guest can trace makes view p is sort texts text reports sorted = recor
 -- no sum is too large, so none is the first
 pub none_first : (p : Contents) (position : ℕ) → AreAllWithin p → IsFirstOver p position → ⊥
 none_first p position all first =
-    let small = all position first.over.sum first.over.of_profile in
-    let large = first.over.over in omega (arith, small, large)
+    let small = all position first.too_large.sum first.too_large.of_profile in
+    let large = first.too_large.too_large in omega (arith, small, large)

@@ -21,13 +21,13 @@ use Rattle.command_status.specs.Ends.{end_status}
 use Rattle.command_status.specs.Numbers.{is_finished}
 use Rattle.command_status.specs.declared.status.Status.{Status}
 use Rattle.command_status.specs.declared.status.Status.TheVariants.{OutFault, OutOfMemory}
-use Rattle.command_words.specs.Asked.{Asked, Demo, Job, Report, View}
+use Rattle.command_words.specs.Request.{Request, Demo, Job, Report, View}
 use Rattle.command_words.specs.Within.{IsJob, IsOfReport, IsWithin}
 use Rattle.profile_cli.specs.Course.{Course}
 use Rattle.command_steps.specs.Loading.{IsLoadIf, input_fault, input_limit, load_fault}
 use Rattle.profile_cli.specs.Demo.{demo_job}
 use Rattle.profile_cli.specs.ExactDemo.{IsExactDemo, demo_status}
-use Rattle.command_steps.specs.Gates.{check, passed}
+use Rattle.command_steps.specs.Gates.{check, gates_outcome}
 use Rattle.profile_cli.specs.Order.{behind_demo, elf_status, fault_status, program_limit, run_gate}
 use Rattle.profile_cli.specs.OwnParts.{IsNotOfParts, IsOfJob, IsReadable}
 use Rattle.profile_cli.specs.OwnReport.{reporting_own}
@@ -116,7 +116,7 @@ module _ (old new : Outside) (job : Job) where
       (IsWorked old job view replies.found (record new { err = replies.err }))
       replies.works.course
       (loading_stops replies.works.course replies.works.met.0.program replies.works.met.0.input)
-      (reporting_own replies.works.course.read replies.works.course.shown)
+      (reporting_own replies.works.course.profile replies.works.course.report)
       (λ program_none elf_none input_none at.
       run_on old job view own contents told within replies.found
       (record new { err = replies.err }) StopsJob tt
@@ -124,12 +124,12 @@ module _ (old new : Outside) (job : Job) where
       program_none elf_none input_none
       (λ syms refused output runs. fault_is (IsOfJob old job new) job.base refused) replies.works.met.0
       replies.works.met.1 at)
-      (record { status_is = replies.works.status_is; left = replies.works.leaves }))))
+      (record { status_is = replies.works.status_is; leaves = replies.works.leaves }))))
     where
       by : StopsJob replies.found ⊎ IsWorked old job view replies.found (record new { err = replies.err })
           → StopsJob replies.found
       by (inl such) = such
-      by (inr w) = subst StopsJob (sym w.ran.status_is) (end_is (IsOfJob old job new) w.ran.run.stop.end)
+      by (inr w) = subst StopsJob (sym w.run.status_is) (end_is (IsOfJob old job new) w.run.run.stop.end)
 
 -- ---- `demo`
 
@@ -146,7 +146,7 @@ readable_demo old new size status replies contents told =
     subst (Stops NoFile) (sym replies.says.status_is)
     (line_is NoFile replies.found replies.says.answer
     (read replies.works.course.words_read
-    (record { status_is = replies.works.status_is; left = replies.works.leaves })))
+    (record { status_is = replies.works.status_is; leaves = replies.works.leaves })))
   where
     mid : Outside
     mid = record new { err = replies.err }
@@ -159,16 +159,16 @@ readable_demo old new size status replies contents told =
     by (inr exact) = subst (Stops NoFile) (sym exact.status_is) (demo_is exact.run.stop.end)
 
     read : (b : Bool) → At old replies.found mid nothing
-        (passed (check (if b then None else Some (OutOfMemory memory))
-        ∷ run_gate demo_job met.ran ∷ (behind_demo size met met.ran).gates) (behind_demo size met met.ran).last)
+        (gates_outcome (check (if b then None else Some (OutOfMemory memory))
+        ∷ run_gate demo_job met.run ∷ (behind_demo size met met.run).gates) (behind_demo size met met.run).last)
         → Stops NoFile replies.found
     read false at = subst (Stops NoFile) (sym at.status_is) tt
     read true at =
         by (demo_on old mid size contents told replies.found (Stops NoFile) tt (λ name rose. tt) (λ rose. tt) met
         (λ file syms refused output made runs. fault_is NoFile demo_job.base refused) replies.works.met
-        (record { status_is = at.status_is; left = at.left }))
+        (record { status_is = at.status_is; leaves = at.leaves }))
 
-pub IsReadable-replies : (old new : Outside) (asked : Asked) (status : Status) → IsWithin asked
+pub IsReadable-replies : (old new : Outside) (asked : Request) (status : Status) → IsWithin asked
     → Replies old asked status new → IsReadable old asked status new
 IsReadable-replies old new asked status within replies = record {
   report = λ files job view is told.

@@ -1,9 +1,9 @@
 -- All that is said of a reply follows from what the work met and did.
 use Rattle.outside.specs.Outside.{Outside}
 use Rattle.command_status.specs.declared.status.Status.{Status}
-use Rattle.command_words.specs.Asked.{Asked}
+use Rattle.command_words.specs.Request.{Request}
 use Rattle.command_words.specs.Within.{IsWithin}
-use Rattle.profile_cli.specs.Calls.{IsTold}
+use Rattle.profile_cli.specs.Calls.{MakesCalls}
 use Rattle.profile_cli.specs.Profile.{IsReply}
 use Rattle.profile_cli.specs.Reply.{Replies}
 use Rattle.profile_cli.proofs.ByCallsLemmas.{IsHeadlineByCalls-told}
@@ -13,8 +13,8 @@ use Rattle.profile_cli.proofs.EveryRunLemmas.{IsWaits-replies, budget-replies}
 use Rattle.profile_cli.proofs.HeadlineLemmas.{IsHeadline-replies}
 use Rattle.profile_cli.proofs.ReadableLemmas.{IsReadable-replies}
 
-pub IsReply-replies : (old new : Outside) (asked : Asked) (status : Status) → IsWithin asked
-    → Replies old asked status new → IsTold old asked status new → IsReply old asked status new
+pub IsReply-replies : (old new : Outside) (asked : Request) (status : Status) → IsWithin asked
+    → Replies old asked status new → MakesCalls old asked status new → IsReply old asked status new
 IsReply-replies old new asked status within replies told = record {
   replies = replies;
   told = told;

@@ -6,21 +6,21 @@ use Rattle.outside.specs.Outside.{Outside, Output, Stream}
 use Rattle.elf_read.specs.Image.{Image}
 use Rattle.sym_map.specs.SymbolMap.{SymbolMap}
 use Rattle.part_dump.specs.Watching.{Meaning}
-use Rattle.profile_run.specs.Guest.{Guest, Options}
+use Rattle.profile_run.specs.Program.{Program, Options}
 use Rattle.profile_run.specs.Parts.{Writing}
-use Rattle.profile_run.specs.Runs.{Answers, Ended, Runs}
+use Rattle.profile_run.specs.Runs.{Answers, RunEnd, Runs}
 use Rattle.profile_run.specs.declared.run_fault.RunFault.{RunFault}
 use Rattle.profile_run.specs.declared.run_fault.RunFault.TheVariants as fault
 use Rattle.command_status.specs.declared.status.Status.{Status}
-use Rattle.command_words.specs.Asked.{Job}
+use Rattle.command_words.specs.Request.{Job}
 use Rattle.command_steps.specs.Loading.{HasStatus}
 use Rattle.profile_cli.specs.Order.{fault_status}
 use Rattle.profile_cli.specs.Program.{guest_of, options_of}
-use Rattle.profile_cli.specs.inner.RunStages.{IsTold, RunsGuest}
+use Rattle.profile_cli.specs.inner.RunStages.{HasWatched, RunsGuest}
 use Rattle.byte_text.specs.Memory.{memory}
 
 -- A run speaks of no count of loads, so what it says over an outside it says over any with the same other counts.
-pub Runs-earlier : (writing : Writing) (guest : Guest) (old mid : Outside) (stop : Result Ended RunFault)
+pub Runs-earlier : (writing : Writing) (guest : Program) (old mid : Outside) (stop : Result RunEnd RunFault)
     (output : Output) (new : Outside)
     → mid.put_faults ≡ old.put_faults → mid.out ≡ old.out → mid.err ≡ old.err
     → Runs writing guest mid stop output new → Runs writing guest old stop output new
@@ -39,7 +39,7 @@ Runs-earlier writing guest old mid (Err fault.OutFault) output new puts out err 
 Runs-earlier writing guest old mid (Err (fault.OutOfMemory _)) output new puts out err runs = runs
 
 -- a part that can't be put may be answered as want of memory
-pub Runs-unnamed : (writing : Writing) (guest : Guest) (old : Outside) (refused : RunFault) (output : Output)
+pub Runs-unnamed : (writing : Writing) (guest : Program) (old : Outside) (refused : RunFault) (output : Output)
     (new : Outside)
     → Runs writing guest old (Err refused) output new → Runs writing guest old (Err (fault.OutOfMemory memory)) output new
 Runs-unnamed writing guest old (fault.ArgsTooLong len) output new runs = inr runs.1
@@ -49,7 +49,7 @@ Runs-unnamed writing guest old fault.OutFault output new runs = inl (runs.0, run
 Runs-unnamed writing guest old (fault.OutOfMemory _) output new runs = runs
 
 -- what is so of a guest is so of that of the job
-of_job : (P : Guest → Type 0) (job : Job) (image : Image) (syms : SymbolMap) (input : List ℕ) (args : List (List ℕ))
+of_job : (P : Program → Type 0) (job : Job) (image : Image) (syms : SymbolMap) (input : List ℕ) (args : List (List ℕ))
     (options : Options) → args ≡ job.args → options ≡ options_of job
     → P (record { image = image; syms = syms; args = args; input = input; options = options })
     → P (guest_of job image input syms)
@@ -60,10 +60,10 @@ of_job P job image syms input args options args_are options_are known =
     args_are known)
 
 -- a run that came to its end
-pub RunsGuest-ran : (parts : Guest → Writing) (job : Job) (image : Image) (syms : SymbolMap) (input : List ℕ)
-    (args : List (List ℕ)) (options : Options) (old : Outside) (run : Ended) (new : Outside)
+pub RunsGuest-ran : (parts : Program → Writing) (job : Job) (image : Image) (syms : SymbolMap) (input : List ℕ)
+    (args : List (List ℕ)) (options : Options) (old : Outside) (run : RunEnd) (new : Outside)
     → args ≡ job.args → options ≡ options_of job
-    → (let guest : Guest = record { image = image; syms = syms; args = args; input = input; options = options } in
+    → (let guest : Program = record { image = image; syms = syms; args = args; input = input; options = options } in
     Answers (parts guest) guest old (Ok run) new)
     → RunsGuest parts job image syms input old (Ok run) new
 RunsGuest-ran parts job image syms input args options old run new args_are options_are answers =
@@ -77,8 +77,8 @@ RunsGuest-ran parts job image syms input args options old run new args_are optio
       answered = refl;
       output = ran.output;
       runs = ran.runs;
-      left = ran.left;
-      said = Ok run;
+      leaves = ran.left;
+      outcome = Ok run;
       same = refl;
       log = ran.log;
       does = ran.does;
@@ -87,11 +87,11 @@ RunsGuest-ran parts job image syms input args options old run new args_are optio
     }
 
 -- a run that stopped before its end, with the status of that
-pub RunsGuest-refused : (parts : Guest → Writing) (job : Job) (image : Image) (syms : SymbolMap) (input : List ℕ)
+pub RunsGuest-refused : (parts : Program → Writing) (job : Job) (image : Image) (syms : SymbolMap) (input : List ℕ)
     (args : List (List ℕ))
     (options : Options) (old : Outside) (refused : RunFault) (status : Status) (new : Outside)
     → args ≡ job.args → options ≡ options_of job
-    → (let guest : Guest = record { image = image; syms = syms; args = args; input = input; options = options } in
+    → (let guest : Program = record { image = image; syms = syms; args = args; input = input; options = options } in
     Answers (parts guest) guest old (Err refused) new)
     → HasStatus (Some (fault_status job.base refused)) status
     → RunsGuest parts job image syms input old (Err status) new
@@ -108,8 +108,8 @@ RunsGuest-refused parts job image syms input args options old refused status new
       output = ran.output;
       runs = Runs-unnamed (parts (guest_of job image input syms)) (guest_of job image input syms) old refused
           ran.output new ran.runs;
-      left = ran.left;
-      said = Err refused;
+      leaves = ran.left;
+      outcome = Err refused;
       same = tt;
       log = ran.log;
       does = ran.does;
@@ -121,8 +121,8 @@ RunsGuest-refused parts job image syms input args options old refused status new
       answered = (refused, refl, sym (same_Some _ _ is));
       output = ran.output;
       runs = ran.runs;
-      left = ran.left;
-      said = Err refused;
+      leaves = ran.left;
+      outcome = Err refused;
       same = tt;
       log = ran.log;
       does = ran.does;
@@ -131,10 +131,10 @@ RunsGuest-refused parts job image syms input args options old refused status new
     }
 
 -- a watch was told of the run of a job's guest
-pub IsTold-guest : {W : Type 0} (m : Meaning W) (first last : W) (job : Job) (image : Image) (syms : SymbolMap)
+pub HasWatched-guest : {W : Type 0} (m : Meaning W) (first last : W) (job : Job) (image : Image) (syms : SymbolMap)
     (input : List ℕ) (args : List (List ℕ)) (options : Options) → args ≡ job.args → options ≡ options_of job
-    → (let guest : Guest = record { image = image; syms = syms; args = args; input = input; options = options } in
-    IsTold m first last guest)
-    → IsTold m first last (guest_of job image input syms)
-IsTold-guest m first last job image syms input args options args_are options_are told =
-    of_job (IsTold m first last) job image syms input args options args_are options_are told
+    → (let guest : Program = record { image = image; syms = syms; args = args; input = input; options = options } in
+    HasWatched m first last guest)
+    → HasWatched m first last (guest_of job image input syms)
+HasWatched-guest m first last job image syms input args options args_are options_are told =
+    of_job (HasWatched m first last) job image syms input args options args_are options_are told

@@ -4,7 +4,7 @@ use Rattle.std.proofs.Common.{[], ◌∷◌, subst, option_map}
 use Rattle.byte_text.specs.Memory.{memory}
 use Rattle.outside.specs.Load.{Load}
 use Rattle.outside.specs.Outside.{Log, done_then}
-use Rattle.outside.specs.Told.{Loaded, Wrote}
+use Rattle.outside.specs.Journal.{Loaded, Wrote}
 use Rattle.outside.specs.declared.sink.WriteError.{WriteError}
 use Rattle.elf_read.specs.Image.{image_of}
 use Rattle.elf_read.specs.Refusal.{refusal}
@@ -15,13 +15,13 @@ use Rattle.report_rows.specs.declared.options.ReportOptions.{ReportOptions}
 use Rattle.annotate.specs.Report.{SourceTexts}
 use Rattle.annotate.specs.declared.error.ReportError.{ReportError}
 use Rattle.annotate.specs.declared.error.ReportError.TheVariants as report
-use Rattle.profile_run.specs.Guest.{Guest}
+use Rattle.profile_run.specs.Program.{Program}
 use Rattle.profile_run.specs.Parts.{Writing}
-use Rattle.profile_run.specs.Runs.{Does, Ended}
+use Rattle.profile_run.specs.Runs.{Does, RunEnd}
 use Rattle.profile_run.specs.declared.run_fault.RunFault.{RunFault}
 use Rattle.command_status.specs.declared.status.Status.{Status}
 use Rattle.command_status.specs.declared.status.Status.TheVariants.{Done, OutOfMemory, SumLimit, Usage}
-use Rattle.command_words.specs.Asked.{Job, View}
+use Rattle.command_words.specs.Request.{Job, View}
 use Rattle.command_steps.specs.Annotate.{IsMade, MakesReport, SettlesOptions, report_fault, sort_fault, write_fault}
 use Rattle.command_steps.specs.Loading.{HasStatus, input_limit, load_fault}
 use Rattle.profile_cli.specs.Order.{elf_fault, elf_status, fault_status, program_limit}
@@ -49,7 +49,7 @@ pub record IsSort (Such : Status → Log → Type 0) : Type 0 where
   pub elf : (error : ElfError) (log : Log) → Such (elf_status error) log
   pub load : (name : List ℕ) (limit : ℕ) (found : Load)
       → StopsSo (λ s. Such s (asking (Loaded name limit found ∷ []))) (load_fault name found)
-  pub run : (parts : Writing) (guest : Guest) (refused : RunFault) (log : Log) → Does parts guest (Err refused) log
+  pub run : (parts : Writing) (guest : Program) (refused : RunFault) (log : Log) → Does parts guest (Err refused) log
       → Such (fault_status guest.options.base refused) log
   pub write : (bytes : List ℕ) (writes : List Wrote) (answer : Result (Unit {0}) WriteError)
       → AreWritesOrWants bytes writes answer → StopsSo (λ s. Such s (writing writes)) (write_fault answer)
@@ -95,15 +95,15 @@ module _ (Such : Status → Log → Type 0) (sort : IsSort Such) where
       by None = none_stops (λ s. Such s log)
       by (Some error) = some_stops (λ s. Such s log) (elf_status error) (sort.elf error log)
 
-  pub run_such : (parts : Guest → Writing) (job : Job) (program input : List ℕ)
+  pub run_such : (parts : Program → Writing) (job : Job) (program input : List ℕ)
       → AllSuch Such (stage.Runs parts job program input)
   run_such parts job program input log s (inl wants) = wanting s log (in_err wants.comes)
   run_such parts job program input log s (inr has) = by has.stop has.does has.comes
     where
-      guest : Guest
+      guest : Program
       guest = guest_of job (image_of program) input has.syms
 
-      by : (stop : Result Ended RunFault) → Does (parts guest) guest stop log → ComesTo job.base guest stop (Err s)
+      by : (stop : Result RunEnd RunFault) → Does (parts guest) guest stop log → ComesTo job.base guest stop (Err s)
           → Such s log
       by (Ok run) does is = absurd (cc is)
       by (Err refused) does has =
@@ -111,7 +111,7 @@ module _ (Such : Status → Log → Type 0) (sort : IsSort Such) where
           (some_stops (λ t. Such t log) (fault_status job.base refused) (sort.run (parts guest) guest refused log does))
           s has
 
-  pub job_such : (parts : Guest → Writing) (job : Job) → AllSuch Such (LoadsAndRuns parts job)
+  pub job_such : (parts : Program → Writing) (job : Job) → AllSuch Such (LoadsAndRuns parts job)
   job_such parts job =
       then_such _ _ (loads_such (program_of job.args) program_limit) (λ program.
       then_such _ _ (elf_such program) (λ accepted.

@@ -14,26 +14,26 @@ use Rattle.event_costs.specs.declared.outcome.End.{End}
 use Rattle.cg_format.specs.declared.trigger.Trigger.{Trigger}
 use Rattle.cg_format.specs.declared.trigger.Trigger.TheVariants.{Termination}
 use Rattle.elf_read.specs.Refusal.{refusal}
-use Rattle.shadow_stack.specs.Traces.{Seen}
+use Rattle.shadow_stack.specs.Traces.{EventOnStack}
 use Rattle.sym_map.specs.SymbolMap.{SymbolMap}
 use Rattle.part_dump.specs.Calls.{closed_calls, part_calls, steps_calls, thread_calls, tried_calls}
 use Rattle.part_dump.specs.Cuts.{cuts}
-use Rattle.part_dump.specs.Steps.{Step, own_seen, threads}
+use Rattle.part_dump.specs.Steps.{Step, events_on_stack_of, threads}
 use Rattle.part_dump.specs.Watched.{steps_in}
 use Rattle.part_dump.specs.Watching.{after_calls}
 use Rattle.part_dump.proofs.CutLemmas.{cuts_together}
-use Rattle.profile_run.specs.Guest.{Guest, head_of_run, CanRun}
+use Rattle.profile_run.specs.Program.{Program, head_of_run, CanRun}
 use Rattle.profile_run.specs.Parts.{calls_of, calls_so_far, plain_parts}
 use Rattle.recorder.specs.Rows.{rows_of}
-use Rattle.profile_run.specs.Runs.{Ended}
-use Rattle.profile_run.specs.Trace.{IsTraceOf, Makes, Stop, Taken}
+use Rattle.profile_run.specs.Runs.{RunEnd}
+use Rattle.profile_run.specs.Trace.{IsTraceOf, Makes, Stop, RunStep}
 use Rattle.profile_run.specs.Trace as trace
 use Rattle.profile_run.proofs.CallLemmas.{calls_whole}
 use Rattle.profile_run.proofs.PutLemmas.{with-append}
 use Rattle.part_dump.proofs.WatchLemmas.{steps-append}
 use Rattle.once_each.specs.Runs.{AreOrderlyAfter}
 use Rattle.run_laws.proofs.EventLemmas.{orderly, small_numbers}
-use Rattle.wait_report.specs.Keeping.{Kept, State, watching}
+use Rattle.wait_report.specs.Keeping.{WaitBooks, WaitState, watching}
 use Rattle.wait_report.specs.Keeping as keeping
 use Rattle.wait_report.specs.Standing.{HaveSums, MayAllFollow, StandsFor}
 use Rattle.wait_report.specs.Waits.{AreOfOthers}
@@ -43,20 +43,20 @@ use Rattle.wait_report.proofs.SumLemmas.{sums_fit}
 use Rattle.command_status.specs.Ends.{end_status}
 use Rattle.command_status.specs.declared.status.Status.{Status}
 use Rattle.command_status.specs.declared.status.Status.TheVariants as wanted
-use Rattle.command_words.specs.Asked.{Job, Run, Waits}
+use Rattle.command_words.specs.Request.{Job, Run, Waits}
 use Rattle.command_words.specs.Within.{IsJob}
 use Rattle.profile_files.specs.Loads.{IsLoad}
-use Rattle.command_steps.specs.Stages.{met}
-use Rattle.profile_cli.specs.Course.{Course, Waited}
+use Rattle.command_steps.specs.Stages.{final_status}
+use Rattle.profile_cli.specs.Course.{Course, WaitsOutcome}
 use Rattle.command_steps.specs.Loading.{IsLoadIf, HasStatus, input_limit}
-use Rattle.command_steps.specs.Gates.{Gate, Outcome, at_gate, or_next, passed}
+use Rattle.command_steps.specs.Gates.{Gate, Outcome, at_gate, or_next, gates_outcome}
 use Rattle.profile_cli.specs.Order.{loading, program_limit, reading, run_gate}
 use Rattle.profile_cli.specs.Reply.{Works}
 use Rattle.profile_cli.specs.Watching.{IsPut, IsWaited, put_fault, put_output, put_status, waits_gate, waits_name}
 use Rattle.profile_cli.specs.Words.{program_of}
 use Rattle.command_steps.specs.ReportStages.{report_status}
-use Rattle.profile_cli.specs.inner.RunStages.{IsTold, RanToEnd, ended}
-use Rattle.profile_cli.specs.inner.WaitStages.{CanReport, IsTextOf, PutsWaits, stopped}
+use Rattle.profile_cli.specs.inner.RunStages.{HasWatched, RanToEnd, end_result}
+use Rattle.profile_cli.specs.inner.WaitStages.{CanReport, IsTextOf, PutsWaits, stop_status}
 use Rattle.profile_cli.proofs.OutsideLemmas.{holds_nothing}
 use Rattle.profile_cli.proofs.PastRunLemmas.{accepted_is}
 use Rattle.profile_cli.proofs.WatchLemmas.{WritesPlain}
@@ -70,22 +70,22 @@ steps_of_steps : (xs : List Step) → steps_in (steps_calls xs) ≡ xs
 steps_of_steps [] = refl
 steps_of_steps (x ∷ xs) = ap (λ ys. x ∷ ys) (steps_of_steps xs)
 
-module _ (guest : Guest) where
-  no_thread_steps : (part : ℕ) (trigger : Trigger) (thread : ℕ) (xs : List Seen)
+module _ (guest : Program) where
+  no_thread_steps : (part : ℕ) (trigger : Trigger) (thread : ℕ) (xs : List EventOnStack)
       → steps_in (thread_calls (rows_of guest.syms) (head_of_run guest) part trigger thread xs) ≡ []
   no_thread_steps part trigger thread [] = refl
   no_thread_steps part trigger thread (x ∷ xs) = refl
 
   no_part_steps : (part : ℕ) (segment : List Step) (trigger : Trigger) (ts : List ℕ)
       → steps_in (flat_map (λ thread.
-      thread_calls (rows_of guest.syms) (head_of_run guest) part trigger thread (own_seen thread segment)) ts)
+      thread_calls (rows_of guest.syms) (head_of_run guest) part trigger thread (events_on_stack_of thread segment)) ts)
       ≡ []
   no_part_steps part segment trigger [] = refl
   no_part_steps part segment trigger (t ∷ ts) =
-      steps-append (thread_calls (rows_of guest.syms) (head_of_run guest) part trigger t (own_seen t segment))
+      steps-append (thread_calls (rows_of guest.syms) (head_of_run guest) part trigger t (events_on_stack_of t segment))
       (flat_map (λ thread.
-      thread_calls (rows_of guest.syms) (head_of_run guest) part trigger thread (own_seen thread segment)) ts)
-      ∙ (λ i. no_thread_steps part trigger t (own_seen t segment) i ++ no_part_steps part segment trigger ts i)
+      thread_calls (rows_of guest.syms) (head_of_run guest) part trigger thread (events_on_stack_of thread segment)) ts)
+      ∙ (λ i. no_thread_steps part trigger t (events_on_stack_of t segment) i ++ no_part_steps part segment trigger ts i)
 
   closed_steps : (n : ℕ) (segments : List (List Step × Trigger))
       → steps_in (flat_map (λ s. steps_calls s.1.0
@@ -109,8 +109,8 @@ module _ (guest : Guest) where
   -- they are its steps
   steps_called : (xs : List Step) (tried : Option (ThreadNo × ℕ)) → steps_in (calls_of guest xs tried) ≡ xs
   steps_called xs tried =
-      let closed = (cuts guest.syms guest.options.asked xs).closed in
-      let recent = (cuts guest.syms guest.options.asked xs).recent in
+      let closed = (cuts guest.syms guest.options.dump_points xs).closed in
+      let recent = (cuts guest.syms guest.options.dump_points xs).recent in
       let cs = closed_calls (rows_of guest.syms) (head_of_run guest) closed in
       let last = part_calls (rows_of guest.syms) (head_of_run guest) (length closed + 1) recent Termination in
       ap steps_in (calls_whole guest xs tried)
@@ -121,7 +121,7 @@ module _ (guest : Guest) where
       ∙ (λ i. steps-append cs (steps_calls recent) i ++ no_tried_steps tried i)
       ∙ append-nil (steps_in cs ++ steps_in (steps_calls recent))
       ∙ (λ i. closed_steps 1 closed i ++ steps_of_steps recent i)
-      ∙ cuts_together guest.syms guest.options.asked xs
+      ∙ cuts_together guest.syms guest.options.dump_points xs
 
 -- ---- what was kept
 
@@ -130,7 +130,7 @@ follow_all syms earlier [] are = tt
 follow_all syms earlier (x ∷ xs) are =
     (may_follow syms earlier x are.0, follow_all syms (earlier ++ x ∷ []) xs are.1)
 
-module _ (guest : Guest) (can : CanRun guest) (xs : List Taken) (stop : Stop) (is : IsTraceOf guest xs stop) where
+module _ (guest : Program) (can : CanRun guest) (xs : List RunStep) (stop : Stop) (is : IsTraceOf guest xs stop) where
   makes : Makes guest xs
   makes = record { last = is.last; run = is.run }
 
@@ -143,14 +143,14 @@ module _ (guest : Guest) (can : CanRun guest) (xs : List Taken) (stop : Stop) (i
   pub sums_of_run : HaveSums (trace.steps_of xs)
   sums_of_run = sums_fit (trace.steps_of xs) follow (small_numbers guest can xs makes)
 
-  pub kept_of_run : (first last : State) → first.kept ≡ keeping.nothing
+  pub kept_of_run : (first last : WaitState) → first.books ≡ keeping.nothing
       → last ≡ after_calls watching guest.syms first (calls_of guest (trace.steps_of xs) stop.tried)
-      → StandsFor last.kept (trace.steps_of xs)
+      → StandsFor last.books (trace.steps_of xs)
   kept_of_run first last fresh told =
       let calls = calls_of guest (trace.steps_of xs) stop.tried in
       let steps = steps_called guest (trace.steps_of xs) stop.tried in
-      subst (λ (w : State). StandsFor w.kept (trace.steps_of xs)) (sym told)
-      (subst (StandsFor (after_calls watching guest.syms first calls).kept) steps
+      subst (λ (w : WaitState). StandsFor w.books (trace.steps_of xs)) (sym told)
+      (subst (StandsFor (after_calls watching guest.syms first calls).books) steps
       (run_stands guest.syms first calls fresh (subst (MayAllFollow []) (sym steps) follow)))
 
 -- ---- the report is made
@@ -158,25 +158,25 @@ module _ (guest : Guest) (can : CanRun guest) (xs : List Taken) (stop : Stop) (i
 -- ---- it is put
 
 -- memory was wanting before the put
-pub PutsWaits-exit : (kept : Kept) (job : Job) (old : Option Files) (before now : ℕ) (new : Option Files)
+pub PutsWaits-exit : (kept : WaitBooks) (job : Job) (old : Option Files) (before now : ℕ) (new : Option Files)
     (result : Result (Unit {0}) Status)
     → IsErrAnd result (λ status. status ≡ (wanted.OutOfMemory memory)) → new ≡ old
     → PutsWaits kept job old before now result new
 PutsWaits-exit kept job old before now new (Ok done) none same = absurd none
 PutsWaits-exit kept job old before now new (Err status) is same = record {
-  waited = None;
+  waits = None;
   text = tt;
   put = tt;
   stops = ap Some (sym is);
   holds = holds_nothing old new same;
 }
 
-pub PutsWaits-put : (kept : Kept) (job : Job) (name text : List ℕ) (old : Option Files) (before now : ℕ)
+pub PutsWaits-put : (kept : WaitBooks) (job : Job) (name text : List ℕ) (old : Option Files) (before now : ℕ)
     (new : Option Files)
     → name ≡ waits_name job.base → IsTextOf kept job text
     → new ≡ option_map (λ files. with_file files name text) old → PutsWaits kept job old before now (Ok tt) new
 PutsWaits-put kept job name text old before now new same is puts = record {
-  waited = Some (record { text = text; put = Ok tt });
+  waits = Some (record { text = text; put = Ok tt });
   text = is;
   put = tt;
   stops = refl;
@@ -189,20 +189,20 @@ same_but name None new same = same
 same_but name (Some files) new same = same
 
 -- the put was refused
-refused_put : (kept : Kept) (job : Job) (name text : List ℕ) (old : Option Files) (before now : ℕ)
+refused_put : (kept : WaitBooks) (job : Job) (name text : List ℕ) (old : Option Files) (before now : ℕ)
     (new : Option Files) (error : PutError) (status : Status)
     → name ≡ waits_name job.base → IsTextOf kept job text → IsPut {U = Unit {0}} before now (Err error)
     → Some (put_status name error) ≡ Some status → SameBut name old new
     → PutsWaits kept job old before now (Err status) new
 refused_put kept job name text old before now new error status same is put_is stop but = record {
-  waited = Some (record { text = text; put = Err error });
+  waits = Some (record { text = text; put = Err error });
   text = is;
   put = put_is;
   stops = ap (λ n. Some (put_status n error)) (sym same) ∙ stop;
   holds = subst (λ n. SameBut n (option_map (with_files []) old) new) same (same_but name old new but);
 }
 
-pub PutsWaits-unput : (kept : Kept) (job : Job) (name text : List ℕ) (old : Option Files) (before now : ℕ)
+pub PutsWaits-unput : (kept : WaitBooks) (job : Job) (name text : List ℕ) (old : Option Files) (before now : ℕ)
     (new : Option Files) (error : PutError) (status : Status)
     → name ≡ waits_name job.base → IsTextOf kept job text
     → PutAnswers {U = Unit {0}} old name text before now (Err error) new
@@ -254,17 +254,17 @@ abbrev gate_outcome : Option Status → Output → Status → Outcome
 gate_outcome stops output last = at_gate stops output (record { status = last; output = nothing })
 
 status_then : (result : Result (Unit {0}) Status) (output : Output) (last : Status)
-    → (gate_outcome (stopped result) output last).status ≡ report_status last result
+    → (gate_outcome (stop_status result) output last).status ≡ report_status last result
 status_then (Ok done) output last = refl
 status_then (Err status) output last = refl
 
 module _ (old mid new : Outside) (output : Output) (whole : output.refused ≡ None) (left : Leaves old output mid)
     (out : new.out ≡ mid.out) (err : new.err ≡ mid.err) (base : List ℕ) (last : Status) where
-  abbrev Left : Option Waited → Option Status → Type 0
+  abbrev Left : Option WaitsOutcome → Option Status → Type 0
   Left waited stops =
       Leaves old (and_then output (gate_outcome stops (waits_gate base waited).output last).output) new
 
-  left_then : (waited : Option Waited) (stops : Option Status) → (waits_gate base waited).stops ≡ stops
+  left_then : (waited : Option WaitsOutcome) (stops : Option Status) → (waits_gate base waited).stops ≡ stops
       → Holds (waits_gate base waited).output.files (waits_gate base waited).output.refused mid.files new.files
       → Left waited stops
   left_then waited stops is holds = subst (Left waited) is (by waited holds)
@@ -283,7 +283,7 @@ module _ (old mid new : Outside) (output : Output) (whole : output.refused ≡ N
           leaves_then old mid new output (record nothing { refused = Some (waits_name base) }) whole left refl refl
           holds_file out err
 
-      by : (waited : Option Waited)
+      by : (waited : Option WaitsOutcome)
           → Holds (waits_gate base waited).output.files (waits_gate base waited).output.refused mid.files new.files
           → Left waited (waits_gate base waited).stops
       by None holds_none = leaves_then old mid new output nothing whole left refl refl holds_none out err
@@ -298,7 +298,7 @@ put_since before mid now (Err put.Failed) early rose = omega (arith, early, rose
 put_since before mid now (Err (put.OutOfMemory _)) early is = tt
 
 -- What is known once a watched run came to its end.
-pub can_run : (old mid : Outside) (job : Job) (IsSo : Guest → Type 0) (run : Ended) → IsJob job
+pub can_run : (old mid : Outside) (job : Job) (IsSo : Program → Type 0) (run : RunEnd) → IsJob job
     → (ran : RanToEnd plain_parts IsSo old job run mid) → CanRun (guest_with job ran.program ran.input ran.syms)
 can_run old mid job IsSo run within ran = record {
   accepted = accepted_is (refusal ran.program) ran.accepted;
@@ -307,26 +307,26 @@ can_run old mid job IsSo run within ran = record {
   budget = within.budget.most_of;
 }
 
-pub can_report : (old mid : Outside) (job : Job) (run : Ended) (first last : State) → IsJob job
-    → first.kept ≡ keeping.nothing → RanToEnd plain_parts (IsTold watching first last) old job run mid
-    → CanReport last.kept
+pub can_report : (old mid : Outside) (job : Job) (run : RunEnd) (first last : WaitState) → IsJob job
+    → first.books ≡ keeping.nothing → RanToEnd plain_parts (HasWatched watching first last) old job run mid
+    → CanReport last.books
 can_report old mid job run first last within fresh ran =
     let guest = guest_with job ran.program ran.input ran.syms in
-    let can = can_run old mid job (IsTold watching first last) run within ran in
+    let can = can_run old mid job (HasWatched watching first last) run within ran in
     let w = ran.whole in record {
       steps = trace.steps_of w.trace;
       stands = kept_of_run guest can w.trace w.stop w.is first last fresh (ran.so w.trace w.stop w.is);
       sums = sums_of_run guest can w.trace w.stop w.is;
     }
 
-module _ (old mid new : Outside) (given : Job) (run : Ended) (first last : State) (fresh : first.kept ≡ keeping.nothing)
+module _ (old mid new : Outside) (given : Job) (run : RunEnd) (first last : WaitState) (fresh : first.books ≡ keeping.nothing)
     (result : Result (Unit {0}) Status) (early : old.put_faults ≤ mid.put_faults)
     (loads : new.load_faults ≡ mid.load_faults) (out : new.out ≡ mid.out) (err : new.err ≡ mid.err) where
   abbrev asked : Job
   asked = record given { watching = Waits }
 
-  works : IsJob asked → RanToEnd plain_parts (IsTold watching first last) old asked run mid
-      → PutsWaits last.kept asked mid.files mid.put_faults new.put_faults result new.files
+  works : IsJob asked → RanToEnd plain_parts (HasWatched watching first last) old asked run mid
+      → PutsWaits last.books asked mid.files mid.put_faults new.put_faults result new.files
       → Works old (Run asked) (report_status (end_status run.end) result) new
   works within ran puts = record {
     course = met;
@@ -336,9 +336,9 @@ module _ (old mid new : Outside) (given : Job) (run : Ended) (first last : State
             (sym loads) ran.load;
         input = subst (λ n. IsLoadIf old.files asked.input input_limit old.load_faults n (Ok ran.input)) (sym loads)
             ran.fed;
-        ran = (ran.symbols, ran.sound, (ran.fits, ran.whole));
+        run = (ran.symbols, ran.sound, (ran.fits, ran.whole));
       },
-      known puts.waited puts.text puts.put,
+      known puts.waits puts.text puts.put,
     );
     status_is = sym (ap (λ (o : Outcome). o.status) comes
         ∙ ap (λ s. (gate_outcome s gate.output (end_status run.end)).status) puts.stops
@@ -346,47 +346,47 @@ module _ (old mid new : Outside) (given : Job) (run : Ended) (first last : State
     leaves = subst (λ (o : Outcome). Leaves old o.output new) (sym comes)
         (left_then old mid new ran.output
         (whole_refused guest run ran.output ran.whole)
-        ran.leaves out err asked.base (end_status run.end) puts.waited gate.stops refl puts.holds);
+        ran.leaves out err asked.base (end_status run.end) puts.waits gate.stops refl puts.holds);
   }
     where
-      guest : Guest
+      guest : Program
       guest = guest_with asked ran.program ran.input ran.syms
 
       gate : Gate
-      gate = waits_gate asked.base puts.waited
+      gate = waits_gate asked.base puts.waits
 
       met : Course
       met = record (met_running ran.program ran.input (record { syms = ran.syms; stop = Ok run; output = ran.output }))
-          { waited = puts.waited }
+          { waits = puts.waits }
 
-      comes : passed (reading met ++ loading asked met ++ run_gate asked met.ran ∷ gate ∷ []) (end_status run.end)
-          ≡ at_gate None ran.output (passed (gate ∷ []) (end_status run.end))
+      comes : gates_outcome (reading met ++ loading asked met ++ run_gate asked met.run ∷ gate ∷ []) (end_status run.end)
+          ≡ at_gate None ran.output (gates_outcome (gate ∷ []) (end_status run.end))
       comes =
           by_loading asked met None (gate ∷ []) (end_status run.end) refl
           (ap (λ s. or_next s (others asked ran.program (Ok ran.input))) ran.accepted
           ∙ fits_all asked ran.program ran.input ran.syms ran.fits)
 
-      known : (waited : Option Waited) → IfSome waited (λ w. IsTextOf last.kept asked w.text)
+      known : (waited : Option WaitsOutcome) → IfSome waited (λ w. IsTextOf last.books asked w.text)
           → IfSome waited (λ w. IsPut mid.put_faults new.put_faults w.put) → IfSome waited (IsWaited old guest new)
       known None text put_is = tt
       known (Some w) text put_is = record {
         text = λ xs stop is.
             text (trace.steps_of xs)
-            (kept_of_run guest (can_run old mid asked (IsTold watching first last) run within ran) xs stop is first last
+            (kept_of_run guest (can_run old mid asked (HasWatched watching first last) run within ran) xs stop is first last
             fresh (ran.so xs stop is));
         put = put_since old.put_faults mid.put_faults new.put_faults w.put early put_is;
       }
 
-pub Works-waits : (old mid new : Outside) (job : Job) (run : Ended) (first last : State)
-    (result : Result (Unit {0}) Status) → job.watching ≡ Waits → IsJob job → first.kept ≡ keeping.nothing
-    → RanToEnd plain_parts (IsTold watching first last) old job run mid
-    → PutsWaits last.kept job mid.files mid.put_faults new.put_faults result new.files
+pub Works-waits : (old mid new : Outside) (job : Job) (run : RunEnd) (first last : WaitState)
+    (result : Result (Unit {0}) Status) → job.watching ≡ Waits → IsJob job → first.books ≡ keeping.nothing
+    → RanToEnd plain_parts (HasWatched watching first last) old job run mid
+    → PutsWaits last.books job mid.files mid.put_faults new.put_faults result new.files
     → old.put_faults ≤ mid.put_faults → new.load_faults ≡ mid.load_faults → new.out ≡ mid.out → new.err ≡ mid.err
     → Works old (Run job) (report_status (end_status run.end) result) new
 Works-waits old mid new job run first last result is within fresh ran puts early loads out err =
     as_watching Waits job is
-    (λ j. IsJob j → RanToEnd plain_parts (IsTold watching first last) old j run mid
-    → PutsWaits last.kept j mid.files mid.put_faults new.put_faults result new.files
+    (λ j. IsJob j → RanToEnd plain_parts (HasWatched watching first last) old j run mid
+    → PutsWaits last.books j mid.files mid.put_faults new.put_faults result new.files
     → Works old (Run j) (report_status (end_status run.end) result) new)
     (works old mid new job run first last fresh result early loads out err) within ran puts
 
@@ -394,7 +394,7 @@ Works-waits old mid new job run first last result is within fresh ran puts early
 
 -- a stage stopped the work
 pub Works-exit : (old new : Outside) (job : Job) (status : Status) (result : Result End Status)
-    → IsErrAnd result (λ s. s ≡ status) → Works old (Run job) status new → Works old (Run job) (met (ended result)) new
+    → IsErrAnd result (λ s. s ≡ status) → Works old (Run job) status new → Works old (Run job) (final_status (end_result result)) new
 Works-exit old new job status (Ok end) none works = absurd none
 Works-exit old new job status (Err s) is works = subst (λ t. Works old (Run job) t new) (sym is) works
 
@@ -403,7 +403,7 @@ pub waits_write : WritesPlain watching
 waits_write = record { text = λ w head rows syms. refl }
 
 -- how it ended, by the fields of what the run answered
-pub Works-ended_run : (old new : Outside) (job : Job) (run inside : Ended) → run ≡ inside
+pub Works-ended_run : (old new : Outside) (job : Job) (run inside : RunEnd) → run ≡ inside
     → Works old (Run job) (end_status run.end) new → Works old (Run job) (end_status inside.end) new
 Works-ended_run old new job run inside same works =
-    subst (λ (r : Ended). Works old (Run job) (end_status r.end) new) same works
+    subst (λ (r : RunEnd). Works old (Run job) (end_status r.end) new) same works

@@ -17,9 +17,9 @@ use Rattle.command_status.specs.declared.status.Status.{Status}
 use Rattle.command_status.specs.declared.status.Status.TheVariants.{ArgsTooLong, GuestFull, OutFault, OutOfMemory}
 use Rattle.event_costs.specs.declared.outcome.End.{End}
 use Rattle.event_costs.specs.declared.outcome.End.TheVariants as end
-use Rattle.command_words.specs.Asked.{Job}
+use Rattle.command_words.specs.Request.{Job}
 use Rattle.profile_cli.specs.Course.{Course}
-use Rattle.command_steps.specs.Gates.{Gate, Outcome, at_gate, check, passed}
+use Rattle.command_steps.specs.Gates.{Gate, Outcome, at_gate, check, gates_outcome}
 use Rattle.profile_cli.specs.Order.{arguments_fault, elf_fault, last_status, loading, pages_fault, reading, run_gate}
 use Rattle.command_steps.specs.Loading.{input_fault, load_fault}
 use Rattle.command_steps.specs.Saying.{Says, after_line}
@@ -54,34 +54,34 @@ module _ (Stops : Status → Type 0) (old : Outside) (job : Job) (found : Status
   gate : (before : Output) (stops : Option Status) (rest : Outcome) → StopsSo Stops stops
       → (stops ≡ None → At old found mid before rest → Stops found ⊎ W)
       → At old found mid before (at_gate stops nothing rest) → Stops found ⊎ W
-  gate before None rest such on at = on refl (record { status_is = at.status_is; left = at.left })
+  gate before None rest such on at = on refl (record { status_is = at.status_is; leaves = at.leaves })
   gate before (Some stop) rest such on at = inl (subst Stops (sym at.status_is) (such stop refl))
 
   -- all gates before the run
   pub loading_on : (met : Course) → LoadingStops Stops job met → (gates : List Gate)
       → (load_fault (program_of job.args) met.program ≡ None → elf_fault (bytes_of met.program) ≡ None
       → input_fault job.input met.input ≡ None
-      → At old found mid nothing (passed (run_gate job met.ran ∷ gates) (last_status job met.ran)) → Stops found ⊎ W)
+      → At old found mid nothing (gates_outcome (run_gate job met.run ∷ gates) (last_status job met.run)) → Stops found ⊎ W)
       → At old found mid nothing
-      (passed (reading met ++ loading job met ++ run_gate job met.ran ∷ gates) (last_status job met.ran))
+      (gates_outcome (reading met ++ loading job met ++ run_gate job met.run ∷ gates) (last_status job met.run))
       → Stops found ⊎ W
   loading_on met such gates on at =
-      let last = last_status job met.ran in
-      let g6 = run_gate job met.ran ∷ gates in
+      let last = last_status job met.run in
+      let g6 = run_gate job met.run ∷ gates in
       let g5 = check (pages_fault (image_of (bytes_of met.program))) ∷ g6 in
       let g4 = check (arguments_fault job.args) ∷ g5 in
       let g3 = check (input_fault job.input met.input) ∷ g4 in
       let g2 = check (elf_fault (bytes_of met.program)) ∷ g3 in
       let g1 = check (load_fault (program_of job.args) met.program) ∷ g2 in
-      gate nothing (if met.words_read then None else Some (OutOfMemory memory)) (passed g1 last)
+      gate nothing (if met.words_read then None else Some (OutOfMemory memory)) (gates_outcome g1 last)
       (unless_stops Stops met.words_read (OutOfMemory memory) such.wanting)
-      (λ words a1. gate nothing (load_fault (program_of job.args) met.program) (passed g2 last) such.program
-      (λ program a2. gate nothing (elf_fault (bytes_of met.program)) (passed g3 last) such.elf
-      (λ elf_none a3. gate nothing (input_fault job.input met.input) (passed g4 last) such.input
-      (λ input a4. gate nothing (arguments_fault job.args) (passed g5 last)
+      (λ words a1. gate nothing (load_fault (program_of job.args) met.program) (gates_outcome g2 last) such.program
+      (λ program a2. gate nothing (elf_fault (bytes_of met.program)) (gates_outcome g3 last) such.elf
+      (λ elf_none a3. gate nothing (input_fault job.input met.input) (gates_outcome g4 last) such.input
+      (λ input a4. gate nothing (arguments_fault job.args) (gates_outcome g5 last)
       (if_stops Stops (nat_lt 65536 (arguments_len job.args))
       (ArgsTooLong (min (arguments_len job.args) (2 ^ 64 - 1))) (such.arguments _))
-      (λ args a5. gate nothing (pages_fault (image_of (bytes_of met.program))) (passed g6 last)
+      (λ args a5. gate nothing (pages_fault (image_of (bytes_of met.program))) (gates_outcome g6 last)
       (if_stops Stops (nat_lt 65536 (pages_of (image_of (bytes_of met.program)))) GuestFull such.pages)
       (λ pages a6. on program elf_none input a6) a5) a4) a3) a2) a1) at
 

@@ -13,21 +13,21 @@ use Rattle.part_dump.specs.Calls.{Call, Readies, Sees, Writes}
 use Rattle.part_dump.specs.Files.{part_name}
 use Rattle.part_dump.specs.Plain.{Stateless, plain, stateless}
 use Rattle.part_dump.specs.Watching.{Meaning, after_call, puts}
-use Rattle.profile_run.specs.Guest.{Guest}
+use Rattle.profile_run.specs.Program.{Program}
 use Rattle.profile_run.specs.Parts.{Writing, calls_of, calls_so_far, plain_parts, watched_parts}
-use Rattle.profile_run.specs.Runs.{Ended, whole}
-use Rattle.profile_run.specs.Trace.{IsTraceOf, Stop, Taken}
+use Rattle.profile_run.specs.Runs.{RunEnd, whole_output}
+use Rattle.profile_run.specs.Trace.{IsTraceOf, Stop, RunStep}
 use Rattle.profile_run.proofs.PlainLemmas.{same_parts}
 use Rattle.run_laws.specs.Addresses.{addr_parts}
 use Rattle.run_laws.specs.Contexts.{ctx_parts}
 use Rattle.command_status.specs.declared.status.Status.{Status}
 use Rattle.command_status.specs.declared.status.Status.TheVariants.{OutOfMemory, PutFault}
-use Rattle.command_words.specs.Asked.{Addresses, Contexts, Job, Nothing, Waits, Watching}
-use Rattle.command_words.specs.Requests.{watching_of}
+use Rattle.command_words.specs.Request.{Addresses, Contexts, Job, Nothing, Waits, Watching}
+use Rattle.command_words.specs.Meaning.{watching_of}
 use Rattle.command_words.specs.declared.request.Watching as code
 use Rattle.command_words.specs.declared.request.Watching.TheVariants as watching
-use Rattle.profile_cli.specs.Course.{Waited}
-use Rattle.command_steps.specs.Gates.{Outcome, passed}
+use Rattle.profile_cli.specs.Course.{WaitsOutcome}
+use Rattle.command_steps.specs.Gates.{Outcome, gates_outcome}
 use Rattle.command_steps.specs.Stages.{Gives}
 use Rattle.profile_cli.specs.Stages.{PutsWaits}
 use Rattle.profile_cli.specs.Watching.{IsPut, IsWaited, output_asked, parts_asked, waits_file, waits_name}
@@ -55,7 +55,7 @@ module _ {W : Type 0} (m : Meaning W) (writes : WritesPlain m) (syms : SymbolMap
 pub plain_watched : {W : Type 0} (m : Meaning W) → WritesPlain m → (w : W) → watched_parts m w ≡ plain_parts
 plain_watched m writes w = λ i guest. (watched guest ∙ same_parts guest stateless) i
   where
-    watched : (guest : Guest) → watched_parts m w guest ≡ watched_parts plain stateless guest
+    watched : (guest : Program) → watched_parts m w guest ≡ watched_parts plain stateless guest
     watched guest = λ i. record {
       at_cuts = λ steps.
           plain_puts m writes guest.syms guest.options.base w stateless (calls_so_far guest steps) i;
@@ -63,15 +63,15 @@ plain_watched m writes w = λ i guest. (watched guest ∙ same_parts guest state
           plain_puts m writes guest.syms guest.options.base w stateless (calls_of guest steps tried) i;
     }
 
-pub RunsJob-plain : {W : Type 0} (m : Meaning W) → WritesPlain m → (w : W) (IsSo : Guest → Type 0) (old : Outside)
-    (job : Job) (result : Result Ended Status) (new : Outside) → RunsJob (watched_parts m w) IsSo old job result new
+pub RunsJob-plain : {W : Type 0} (m : Meaning W) → WritesPlain m → (w : W) (IsSo : Program → Type 0) (old : Outside)
+    (job : Job) (result : Result RunEnd Status) (new : Outside) → RunsJob (watched_parts m w) IsSo old job result new
     → RunsJob plain_parts IsSo old job result new
 RunsJob-plain m writes w IsSo old job result new =
     subst (λ parts. RunsJob parts IsSo old job result new) (plain_watched m writes w)
 
 -- what is said of the guest gives less
-pub RunsJob-so : (parts : Guest → Writing) (Was IsSo : Guest → Type 0) → ((guest : Guest) → Was guest → IsSo guest)
-    → (old : Outside) (job : Job) (result : Result Ended Status) (new : Outside)
+pub RunsJob-so : (parts : Program → Writing) (Was IsSo : Program → Type 0) → ((guest : Program) → Was guest → IsSo guest)
+    → (old : Outside) (job : Job) (result : Result RunEnd Status) (new : Outside)
     → RunsJob parts Was old job result new → RunsJob parts IsSo old job result new
 RunsJob-so parts Was IsSo so old job (Ok run) new ran = record {
   program = ran.program;
@@ -87,7 +87,7 @@ RunsJob-so parts Was IsSo so old job (Ok run) new ran = record {
   whole = ran.whole;
   so = so _ ran.so;
   leaves = ran.leaves;
-  told = ran.told;
+  did = ran.did;
 }
 RunsJob-so parts Was IsSo so old job (Err status) new stops = stops
 
@@ -97,7 +97,7 @@ nobody_writes = record { text = λ w head rows syms. refl }
 -- ---- the gates behind the run
 
 -- All files were put: the status is the last one, and this is put out.
-pub record IsPast (w : Watching) (guest : Guest) (trace : List Taken) (stop : Stop) (output : Output) (last : Status)
+pub record IsPast (w : Watching) (guest : Program) (trace : List RunStep) (stop : Stop) (output : Output) (last : Status)
     (behind : Outcome) : Type 0 where
   pub status : behind.status ≡ last
   pub output_is : and_then output behind.output ≡ output_asked w guest trace stop
@@ -106,7 +106,7 @@ pub record IsPast (w : Watching) (guest : Guest) (trace : List Taken) (stop : St
 abbrev pub IsUnput : ℕ → ℕ → Status → Type 0
 IsUnput before now status = (name : List ℕ) × (status ≡ PutFault name) × Rose before now
 
-module _ (old mid : Outside) (guest : Guest) (trace : List Taken) (stop : Stop) (is : IsTraceOf guest trace stop)
+module _ (old mid : Outside) (guest : Program) (trace : List RunStep) (stop : Stop) (is : IsTraceOf guest trace stop)
     (output : Output) (last : Status) where
   abbrev pub Comes : Watching → Outcome → Type 0
   Comes w behind =
@@ -114,17 +114,17 @@ module _ (old mid : Outside) (guest : Guest) (trace : List Taken) (stop : Stop) 
       ⊎ IsPast w guest trace stop output last behind)
 
   abbrev all : Output
-  all = whole (plain_parts guest) trace stop
+  all = whole_output (plain_parts guest) trace stop
 
-  with_nothing : (writing : Writing) → and_then (whole writing trace stop) nothing ≡ whole writing trace stop
+  with_nothing : (writing : Writing) → and_then (whole_output writing trace stop) nothing ≡ whole_output writing trace stop
   with_nothing writing = λ i. record {
-    files = append-nil (whole writing trace stop).files i;
+    files = append-nil (whole_output writing trace stop).files i;
     refused = None;
-    out = append-nil (whole writing trace stop).out i;
-    err = append-nil (whole writing trace stop).err i;
+    out = append-nil (whole_output writing trace stop).out i;
+    err = append-nil (whole_output writing trace stop).err i;
   }
 
-  with_waits : (waited : Waited) → waited.text ≡ (waits_file guest trace).1
+  with_waits : (waited : WaitsOutcome) → waited.text ≡ (waits_file guest trace).1
       → and_then all (record nothing { files = (waits_name guest.options.base, waited.text) ∷ [] })
       ≡ output_asked Waits guest trace stop
   with_waits waited same = λ i. record {
@@ -134,8 +134,8 @@ module _ (old mid : Outside) (guest : Guest) (trace : List Taken) (stop : Stop) 
     err = append-nil all.err i;
   }
 
-  pub past_watch : (w : Watching) (waited : Option Waited) → output ≡ whole (parts_asked w guest) trace stop
-      → IfSome waited (IsWaited old guest mid) → Comes w (passed (watch_gates w guest.options.base waited) last)
+  pub past_watch : (w : Watching) (waited : Option WaitsOutcome) → output ≡ whole_output (parts_asked w guest) trace stop
+      → IfSome waited (IsWaited old guest mid) → Comes w (gates_outcome (watch_gates w guest.options.base waited) last)
   past_watch Nothing waited output_is known =
       inr (inr (record {
         status = refl;
@@ -155,7 +155,7 @@ module _ (old mid : Outside) (guest : Guest) (trace : List Taken) (stop : Stop) 
   past_watch Waits (Some waited) output_is known = by waited.put known.put
     where
       by : (answer : Result (Unit {0}) PutError) → IsPut old.put_faults mid.put_faults answer
-          → Comes Waits (passed (watch_gates Waits guest.options.base
+          → Comes Waits (gates_outcome (watch_gates Waits guest.options.base
           (Some (record { text = waited.text; put = answer }))) last)
       by (Ok done) is_put = inr (inr (record {
         status = refl;
@@ -176,7 +176,7 @@ quiet_gates watching.Waits other base = absurd (other refl)
 quiet_gates (watching.Contexts callers) other base = refl
 quiet_gates watching.Addresses other base = refl
 
-pub quiet_puts : (w : code.Watching) → (w ≡ watching.Waits → ⊥) → (guest : Guest) (log : Log)
+pub quiet_puts : (w : code.Watching) → (w ≡ watching.Waits → ⊥) → (guest : Program) (log : Log)
     (result : Result (Unit {0}) Status) → Gives tt log result → PutsWaits (watching_of w) guest log result
 quiet_puts watching.Nothing other guest log result given = given
 quiet_puts watching.Waits other guest log result given = absurd (other refl)

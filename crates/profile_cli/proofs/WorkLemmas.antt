@@ -10,29 +10,29 @@ use Rattle.outside.specs.Outside.{Leaves, Output, Outside, Stream, Tells, nothin
 use Rattle.outside.specs.declared.folder.LoadError.TheVariants as load
 use Rattle.elf_read.specs.Image.{Image, image_of}
 use Rattle.sym_map.specs.SymbolMap.{IsSound, SymbolMap}
-use Rattle.profile_run.specs.Guest.{Fits, Guest}
+use Rattle.profile_run.specs.Program.{Fits, Program}
 use Rattle.profile_run.specs.Parts.{ArePartsOf, Writing}
-use Rattle.profile_run.specs.Runs.{Ended, IsWhole, Runs}
+use Rattle.profile_run.specs.Runs.{RunEnd, IsWhole, Runs}
 use Rattle.profile_run.specs.declared.run_fault.RunFault.{RunFault}
 use Rattle.profile_run.specs.declared.run_fault.RunFault.TheVariants as fault
 use Rattle.command_status.specs.Ends.{end_status}
 use Rattle.command_status.specs.declared.status.Status.{Status}
 use Rattle.command_status.specs.declared.status.Status.TheVariants as wanted
-use Rattle.command_words.specs.Asked.{Asked, Job, Run, Usage, View, Watching}
+use Rattle.command_words.specs.Request.{Request, Job, Run, Usage, View, Watching}
 use Rattle.command_words.specs.Within.{IsBetween, IsWithin}
-use Rattle.command_words.specs.Asked as words
+use Rattle.command_words.specs.Request as words
 use Rattle.profile_files.specs.Loads.{IsLoad}
 use Rattle.outside.specs.Load.{Load, bytes_of}
 use Rattle.profile_files.specs.Joined.{no_rows}
 use Rattle.profile_files.specs.declared.fault.ReadFault.TheVariants as read
 use Rattle.profile_files.proofs.ReadingLemmas.{IsReading-wanting}
-use Rattle.profile_cli.specs.Course.{Course, Ran, no_course}
+use Rattle.profile_cli.specs.Course.{Course, RunOutcome, no_course}
 use Rattle.command_steps.specs.Loading.{IsLoadIf, HasStatus, input_fault, input_limit, load_fault, LoadsFile}
 use Rattle.command_steps.specs.Loading.{LoadsInput}
-use Rattle.command_steps.specs.Gates.{Gate, Outcome, at_gate, check, first_stop, or_next, passed}
+use Rattle.command_steps.specs.Gates.{Gate, Outcome, at_gate, check, first_stop, or_next, gates_outcome}
 use Rattle.profile_cli.specs.Order.{arguments_fault, elf_fault, fault_status, last_status, loading, pages_fault}
 use Rattle.profile_cli.specs.Order.{program_limit, reading, run_gate}
-use Rattle.profile_cli.specs.OwnReport.{IsReported, listed, reporting_own}
+use Rattle.profile_cli.specs.OwnReport.{IsReported, parts_to_read, reporting_own}
 use Rattle.profile_cli.specs.Program.{IsMapOf, guest_of}
 use Rattle.profile_cli.specs.Reply.{IsWaitedIn, Works}
 use Rattle.profile_cli.specs.Watching.{parts_asked, watch_gates}
@@ -42,12 +42,12 @@ use Rattle.profile_cli.specs.inner.RunStages.{StopsBefore, with_guest}
 use Rattle.profile_cli.specs.Stages as stage
 use Rattle.command_steps.specs.Stages.{Did}
 use Rattle.profile_cli.specs.Stages.{IsEndOf, LoadsAndRuns}
-use Rattle.profile_cli.proofs.GateLemmas.{passed-five_checks, unless_stopped}
+use Rattle.profile_cli.proofs.GateLemmas.{gates_outcome-five_checks, unless_stopped}
 use Rattle.profile_cli.proofs.LoadLemmas.{IsLoadIf-within, IsLoad-wanting, IsLoadIf-unknown, few_arguments, few_pages}
 use Rattle.profile_cli.proofs.LoadLemmas.{many_arguments, many_pages, unknown_input}
 use Rattle.profile_cli.proofs.OutsideLemmas.{Leaves-and_nothing, Leaves-earlier, Leaves-nothing}
 use Rattle.command_steps.specs.Annotate.{Annotates, profile_limit}
-use Rattle.profile_files.specs.Wanted.{with_limit}
+use Rattle.profile_files.specs.WantedFile.{with_limit}
 use Rattle.profile_cli.proofs.RunLemmas.{Runs-earlier}
 use Rattle.profile_cli.proofs.StageLemmas.{tells_none}
 use Rattle.byte_text.specs.Memory.{memory}
@@ -55,24 +55,24 @@ use Rattle.byte_text.specs.Memory.{memory}
 -- what the work comes to once it is known which gate of the loading stops it
 pub by_loading : (job : Job) (met : Course) (stop : Option Status) (gates : List Gate) (last : Status)
     → met.words_read ≡ true → first_stop (loading job met) ≡ stop
-    → passed (reading met ++ loading job met ++ run_gate job met.ran ∷ gates) last
-    ≡ unless_stopped stop (passed (run_gate job met.ran ∷ gates) last)
+    → gates_outcome (reading met ++ loading job met ++ run_gate job met.run ∷ gates) last
+    ≡ unless_stopped stop (gates_outcome (run_gate job met.run ∷ gates) last)
 by_loading job met stop gates last read is =
     ap (λ (b : Bool).
-    passed (check (if b then None else Some (wanted.OutOfMemory memory)) ∷ (loading job met ++ run_gate job met.ran ∷ gates))
+    gates_outcome (check (if b then None else Some (wanted.OutOfMemory memory)) ∷ (loading job met ++ run_gate job met.run ∷ gates))
     last)
     read
-    ∙ passed-five_checks (load_fault (program_of job.args) met.program) (elf_fault (bytes_of met.program))
+    ∙ gates_outcome-five_checks (load_fault (program_of job.args) met.program) (elf_fault (bytes_of met.program))
     (input_fault job.input met.input) (arguments_fault job.args)
-    (pages_fault (image_of (bytes_of met.program))) (run_gate job met.ran ∷ gates) last
-    ∙ ap (λ s. unless_stopped s (passed (run_gate job met.ran ∷ gates) last)) is
+    (pages_fault (image_of (bytes_of met.program))) (run_gate job met.run ∷ gates) last
+    ∙ ap (λ s. unless_stopped s (gates_outcome (run_gate job met.run ∷ gates) last)) is
 
 -- ---- the run is not come to
 
 abbrev met_loading : Load → Load → Course
 met_loading program input = record no_course { program = program; input = input }
 
-stopped : {parts : Guest → Writing} (old new : Outside) (job : Job) (program input : Load) (status : Status)
+stopped : {parts : Program → Writing} (old new : Outside) (job : Job) (program input : Load) (status : Status)
     → IsLoad old.files (program_of job.args) program_limit old.load_faults new.load_faults program
     → IsLoadIf old.files job.input input_limit old.load_faults new.load_faults input
     → first_stop (loading job (met_loading program input)) ≡ Some status → Leaves old nothing new
@@ -80,14 +80,14 @@ stopped : {parts : Guest → Writing} (old new : Outside) (job : Job) (program i
 stopped old new job program input status is also stop leaves = record {
   met = met_loading program input;
   output = nothing;
-  is = record { program = is; input = also; ran = tt };
+  is = record { program = is; input = also; run = tt };
   accepted = tt;
   comes = λ gates last. by_loading job (met_loading program input) (Some status) gates last refl stop;
   leaves = leaves;
 }
 
 -- memory was wanting before anything was put out
-pub Stops-wanting : {parts : Guest → Writing} (old new : Outside) (job : Job) (status : Status)
+pub Stops-wanting : {parts : Program → Writing} (old new : Outside) (job : Job) (status : Status)
     → status ≡ wanted.OutOfMemory memory
     → Leaves old nothing new
     → StopsBefore parts old job status new
@@ -104,7 +104,7 @@ others job program input =
     (or_next (arguments_fault job.args) (or_next (pages_fault (image_of program)) None))
 
 -- the program was not loaded
-pub Stops-unloaded : {parts : Guest → Writing} (old new : Outside) (job : Job) (found : Load) (status : Status)
+pub Stops-unloaded : {parts : Program → Writing} (old new : Outside) (job : Job) (found : Load) (status : Status)
     → IsLoad old.files (program_of job.args) program_limit old.load_faults new.load_faults found
     → HasStatus (load_fault (program_of job.args) found) status → Leaves old nothing new
     → StopsBefore parts old job status new
@@ -116,7 +116,7 @@ Stops-unloaded old new job found status is (inr stop) leaves =
     (others job (bytes_of found) (unknown_input job.input)))) stop) leaves
 
 -- it was refused
-pub Stops-refused : {parts : Guest → Writing} (old new : Outside) (job : Job) (bytes : List ℕ) (status : Status)
+pub Stops-refused : {parts : Program → Writing} (old new : Outside) (job : Job) (bytes : List ℕ) (status : Status)
     → IsLoad old.files (program_of job.args) program_limit old.load_faults new.load_faults (Ok bytes)
     → HasStatus (elf_fault bytes) status → Leaves old nothing new → StopsBefore parts old job status new
 Stops-refused old new job bytes status is (inl wanting) leaves = Stops-wanting old new job status wanting leaves
@@ -132,7 +132,7 @@ pub record IsRead (old new : Outside) (job : Job) (bytes : List ℕ) (input : Lo
   pub also : IsLoadIf old.files job.input input_limit old.load_faults new.load_faults input
 
 -- a gate behind the reading stops the work
-past_reading : {parts : Guest → Writing} (old new : Outside) (job : Job) (bytes : List ℕ) (input : Load)
+past_reading : {parts : Program → Writing} (old new : Outside) (job : Job) (bytes : List ℕ) (input : Load)
     (status : Status)
     → IsRead old new job bytes input
     → others job bytes input ≡ Some status → Leaves old nothing new → StopsBefore parts old job status new
@@ -141,7 +141,7 @@ past_reading old new job bytes input status known stop leaves =
     (ap (λ s. or_next s (others job bytes input)) known.accepted ∙ stop) leaves
 
 -- the input was not loaded
-pub Stops-no_input : {parts : Guest → Writing} (old new : Outside) (job : Job) (bytes : List ℕ) (input : Load)
+pub Stops-no_input : {parts : Program → Writing} (old new : Outside) (job : Job) (bytes : List ℕ) (input : Load)
     (status : Status)
     → IsRead old new job bytes input
     → HasStatus (input_fault job.input input) status → Leaves old nothing new → StopsBefore parts old job status new
@@ -158,11 +158,11 @@ no_fault : (name : Option (List ℕ)) (input : List ℕ) → input_fault name (O
 no_fault None input = refl
 no_fault (Some name) input = refl
 
-abbrev pub guest_with : Job → List ℕ → List ℕ → SymbolMap → Guest
+abbrev pub guest_with : Job → List ℕ → List ℕ → SymbolMap → Program
 guest_with job bytes input syms = guest_of job (image_of bytes) input syms
 
-abbrev pub met_running : List ℕ → List ℕ → Ran → Course
-met_running bytes input ran = record no_course { program = Ok bytes; input = Ok input; ran = Some ran }
+abbrev pub met_running : List ℕ → List ℕ → RunOutcome → Course
+met_running bytes input ran = record no_course { program = Ok bytes; input = Ok input; run = Some ran }
 
 pub fits_all : (job : Job) (bytes input : List ℕ) (syms : SymbolMap) → Fits (guest_with job bytes input syms)
     → others job bytes (Ok input) ≡ None
@@ -173,7 +173,7 @@ fits_all job bytes input syms fits =
     ∙ ap (λ s. or_next s None) (few_pages (image_of bytes) fits.pages)
 
 -- the guest was run, and something stopped the run
-running : {parts : Guest → Writing} (old new : Outside) (job : Job) (bytes input : List ℕ) (syms : SymbolMap)
+running : {parts : Program → Writing} (old new : Outside) (job : Job) (bytes input : List ℕ) (syms : SymbolMap)
     (refused : RunFault)
     (output : Output)
     → IsRead old new job bytes (Ok input) → Fits (guest_with job bytes input syms) → IsMapOf (image_of bytes) syms
@@ -181,10 +181,10 @@ running : {parts : Guest → Writing} (old new : Outside) (job : Job) (bytes inp
     → Runs (parts (guest_with job bytes input syms)) (guest_with job bytes input syms) old (Err refused) output new
     → Leaves old output new → StopsBefore parts old job (fault_status job.base refused) new
 running old new job bytes input syms refused output known fits symbols sound runs leaves =
-    let ran : Ran = record { syms = syms; stop = Err refused; output = output } in record {
+    let ran : RunOutcome = record { syms = syms; stop = Err refused; output = output } in record {
       met = met_running bytes input ran;
       output = output;
-      is = record { program = known.load; input = known.also; ran = (symbols, sound, runs) };
+      is = record { program = known.load; input = known.also; run = (symbols, sound, runs) };
       accepted = known.accepted;
       comes = λ gates last.
           by_loading job (met_running bytes input ran) None gates last refl
@@ -208,7 +208,7 @@ too_full job bytes input status few stop =
     ∙ ap (λ s. or_next s (or_next (pages_fault (image_of bytes)) None)) few
     ∙ ap (λ s. or_next s None) stop
 
-pub ran_to : {parts : Guest → Writing} (old new : Outside) (job : Job) (bytes input : List ℕ) (syms : SymbolMap)
+pub ran_to : {parts : Program → Writing} (old new : Outside) (job : Job) (bytes input : List ℕ) (syms : SymbolMap)
     (refused : RunFault)
     (output : Output)
     → IsRead old new job bytes (Ok input) → IsMapOf (image_of bytes) syms → IsSound syms
@@ -234,7 +234,7 @@ ran_to old new job bytes input syms (fault.OutOfMemory memory) output known symb
 -- ---- what is told of it
 
 -- how a run ended that came to its end
-ended : (parts : Writing) (guest : Guest) (old : Outside) (stop : Result Ended RunFault) (output : Output) (new : Outside)
+ended : (parts : Writing) (guest : Program) (old : Outside) (stop : Result RunEnd RunFault) (output : Output) (new : Outside)
     → Runs parts guest old stop output new → IfOk stop (IsEndOf parts guest)
 ended parts guest old (Ok run) output new runs = record {
   trace = runs.1.trace;
@@ -245,14 +245,14 @@ ended parts guest old (Ok run) output new runs = record {
 }
 ended parts guest old (Err refused) output new runs = tt
 
-pub did_run : (parts : Guest → Writing) (job : Job) (bytes input : List ℕ) (image : Image) (syms : SymbolMap)
-    (old new : Outside) (result : Result Ended Status) → image ≡ image_of bytes → IsMapOf image syms → IsSound syms
+pub did_run : (parts : Program → Writing) (job : Job) (bytes input : List ℕ) (image : Image) (syms : SymbolMap)
+    (old new : Outside) (result : Result RunEnd Status) → image ≡ image_of bytes → IsMapOf image syms → IsSound syms
     → RunsGuest parts job image syms input old result new
     → Did (stage.Runs parts job bytes input) old (with_guest (guest_with job bytes input syms) result) new
 did_run parts job bytes input image syms old new result is symbols sound ran =
     by (subst (λ i. IsMapOf i syms) is symbols) (subst (λ i. RunsGuest parts job i syms input old result new) is ran)
   where
-    guest : Guest
+    guest : Program
     guest = guest_with job bytes input syms
 
     by : IsMapOf (image_of bytes) syms → RunsGuest parts job (image_of bytes) syms input old result new
@@ -263,15 +263,15 @@ did_run parts job bytes input image syms old new result is symbols sound ran =
         syms = syms;
         symbols = symbols;
         sound = sound;
-        stop = ran.said;
-        ended = ends ran.said ran.same;
+        stop = ran.outcome;
+        ended = ends ran.outcome ran.same;
         does = ran.does;
         comes = ran.comes;
       });
       tells = ran.tells;
     }
       where
-        ends : (said : Result Ended RunFault) → IfOk said (λ run. ran.stop ≡ Ok run)
+        ends : (said : Result RunEnd RunFault) → IfOk said (λ run. ran.stop ≡ Ok run)
             → IfOk said (IsEndOf (parts guest) guest)
         ends (Ok run) same =
             ended (parts guest) guest old (Ok run) ran.output new
@@ -279,15 +279,15 @@ did_run parts job bytes input image syms old new result is symbols sound ran =
         ends (Err refused) same = tt
 
 -- what is told of the run is told of all behind the loads
-abbrev pub IsToldBehind : (Guest → Writing) → Outside → Outside → Outside → Job → List ℕ → List ℕ → Type 0
+abbrev pub IsToldBehind : (Program → Writing) → Outside → Outside → Outside → Job → List ℕ → List ℕ → Type 0
 IsToldBehind parts old mid new job bytes input =
-    (result : Result (Guest × Ended) Status) → Did (stage.Runs parts job bytes input) mid result new
+    (result : Result (Program × RunEnd) Status) → Did (stage.Runs parts job bytes input) mid result new
     → Did (LoadsAndRuns parts job) old result new
 
 -- a guest was run to its end, or not, seen from the outside before the loads
-RunsJob-ran : (parts : Guest → Writing) (IsSo : Guest → Type 0) (old mid new : Outside) (job : Job)
+RunsJob-ran : (parts : Program → Writing) (IsSo : Program → Type 0) (old mid new : Outside) (job : Job)
     (bytes input : List ℕ) (image : Image) (syms : SymbolMap)
-    (result : Result Ended Status)
+    (result : Result RunEnd Status)
     → IsRead old new job bytes (Ok input) → image ≡ image_of bytes → IsMapOf image syms → IsSound syms
     → mid.files ≡ old.files → mid.put_faults ≡ old.put_faults → mid.out ≡ old.out → mid.err ≡ old.err
     → IfOk result (λ run. IsSo (guest_of job image input syms)) → IsToldBehind parts old mid new job bytes input
@@ -305,9 +305,9 @@ RunsJob-ran parts IsSo old mid new job bytes input image syms result known is sy
     symbols_of = subst (λ i. IsMapOf i syms) is symbols
 
     left : Leaves old ran.output new
-    left = Leaves-earlier old mid new ran.output files out err ran.left
+    left = Leaves-earlier old mid new ran.output files out err ran.leaves
 
-    by : (result : Result Ended Status) (stop : Result Ended RunFault) → IsAnswered job.base stop result
+    by : (result : Result RunEnd Status) (stop : Result RunEnd RunFault) → IsAnswered job.base stop result
         → IfOk result (λ run. IsSo (guest_of job image input syms))
         → Did (LoadsAndRuns parts job) old (with_guest (guest_with job bytes input syms) result) new
         → Runs (parts (guest_with job bytes input syms)) (guest_with job bytes input syms) old stop
@@ -329,7 +329,7 @@ RunsJob-ran parts IsSo old mid new job bytes input image syms result known is sy
           whole = whole.1;
           so = subst (λ i. IsSo (guest_of job i input syms)) is is_so;
           leaves = left;
-          told = did;
+          did = did;
         }
     by (Err status) stop (refused, same, says) is_so did runs = (
       subst (λ s. StopsBefore parts old job s new) (sym says)
@@ -348,7 +348,7 @@ pub equal_counts : (before now : ℕ) → now ≡ before → before ≤ now
 equal_counts before now is = omega (arith, is)
 
 -- the program was not loaded
-pub Stops-not_loaded : {parts : Guest → Writing} (old new : Outside) (job : Job) (name : List ℕ) (status : Status)
+pub Stops-not_loaded : {parts : Program → Writing} (old new : Outside) (job : Job) (name : List ℕ) (status : Status)
     → name ≡ program_of job.args
     → LoadsFile old.files name program_limit old.load_faults new.load_faults (Err status) → Leaves old nothing new
     → StopsBefore parts old job status new
@@ -358,11 +358,11 @@ Stops-not_loaded old new job name status is loads leaves =
     Stops-unloaded old new job answer.0 status answer.1 answer.2 leaves
 
 -- what was loaded, however much later
-pub loaded : (files : Option Files) (name program : List ℕ) (before now later : ℕ) (found : Vec ℕ Global)
+pub load_later : (files : Option Files) (name program : List ℕ) (before now later : ℕ) (found : Vec ℕ Global)
     (bytes : List ℕ) → name ≡ program → bytes ≡ found.items → now ≤ later
     → LoadsFile files name program_limit before now (Ok found)
     → IsLoad files program program_limit before later (Ok bytes)
-loaded files name program before now later found bytes is held late loads =
+load_later files name program before now later found bytes is held late loads =
     subst (λ b. IsLoad files program program_limit before later (Ok b)) (sym held)
     (subst (λ n. IsLoad files n program_limit before later (Ok found.items)) is
     (IsLoadIf-within files (Some name) program_limit before before now later (Ok found.items) (same_count before) late loads))
@@ -383,7 +383,7 @@ read_then old new job bytes image input files before now loads reads same first 
 }
 
 -- the input was not loaded
-pub Stops-input_refused : {parts : Guest → Writing} (old new : Outside) (job : Job) (bytes : List ℕ) (image : Image)
+pub Stops-input_refused : {parts : Program → Writing} (old new : Outside) (job : Job) (bytes : List ℕ) (image : Image)
     (status : Status)
     (files : Option Files) (before : ℕ)
     → IsLoad old.files (program_of job.args) program_limit old.load_faults before (Ok bytes)
@@ -407,8 +407,8 @@ IsRead-both old new job bytes image input files before now loads reads same firs
     read_then old new job bytes image (Ok input.items) files before now loads reads same first second third also
 
 -- a stage stopped the work
-pub RunsJob-exit : (parts : Guest → Writing) (IsSo : Guest → Type 0) (old new : Outside) (job : Job) (stop : Status)
-    (result : Result Ended Status)
+pub RunsJob-exit : (parts : Program → Writing) (IsSo : Program → Type 0) (old new : Outside) (job : Job) (stop : Status)
+    (result : Result RunEnd Status)
     → IsErrAnd result (λ status. status ≡ stop)
     → StopsBefore parts old job stop new → Did (LoadsAndRuns parts job) old (Err stop) new
     → RunsJob parts IsSo old job result new
@@ -417,8 +417,8 @@ RunsJob-exit parts IsSo old new job stop (Err status) is stops did =
     subst (λ s. StopsBefore parts old job s new × Did (LoadsAndRuns parts job) old (Err s) new) (sym is) (stops, did)
 
 -- the guest of a program that was read, and its input too, was run or not
-pub RunsJob-elf : (parts : Guest → Writing) (IsSo : Guest → Type 0) (old mid new : Outside) (job : Job)
-    (bytes input : List ℕ) (image : Image) (result : Result Ended Status)
+pub RunsJob-elf : (parts : Program → Writing) (IsSo : Program → Type 0) (old mid new : Outside) (job : Job)
+    (bytes input : List ℕ) (image : Image) (result : Result RunEnd Status)
     → IsRead old new job bytes (Ok input) → image ≡ image_of bytes → mid.files ≡ old.files
     → mid.put_faults ≡ old.put_faults → mid.out ≡ old.out → mid.err ≡ old.err
     → IsToldBehind parts old mid new job bytes input
@@ -436,15 +436,15 @@ RunsJob-elf parts IsSo old mid new job bytes input image result known is files p
     }))
 RunsJob-elf parts IsSo old mid new job bytes input image result known is files puts out err behind (inr with) =
     RunsJob-ran parts IsSo old mid new job bytes input image with.syms result known is with.symbols with.sound files
-    puts out err with.so behind with.ran
+    puts out err with.so behind with.run
 
 -- ---- the command `run`
 
 -- nothing was put for a watch
 abbrev unwatched : Course → Course
-unwatched met = record met { waited = None }
+unwatched met = record met { waits = None }
 
-unwaited : (old new : Outside) (job : Job) (met : Course) (ran : Option Ran)
+unwaited : (old new : Outside) (job : Job) (met : Course) (ran : Option RunOutcome)
     → IfSome ran (IsWaitedIn old job (unwatched met) new)
 unwaited old new job met None = tt
 unwaited old new job met (Some ran) = tt
@@ -453,11 +453,11 @@ unwaited old new job met (Some ran) = tt
 pub Works-stopped_run : (old new : Outside) (job : Job) (status : Status)
     → StopsBefore (parts_asked job.watching) old job status new → Works old (Run job) status new
 Works-stopped_run old new job status stops =
-    let comes = stops.comes (watch_gates job.watching job.base None) (last_status job stops.met.ran) in record {
+    let comes = stops.comes (watch_gates job.watching job.base None) (last_status job stops.met.run) in record {
       course = unwatched stops.met;
       met = (
-        record { program = stops.is.program; input = stops.is.input; ran = stops.is.ran },
-        unwaited old new job stops.met stops.met.ran,
+        record { program = stops.is.program; input = stops.is.input; run = stops.is.run },
+        unwaited old new job stops.met stops.met.run,
       );
       status_is = sym (ap (λ o. o.status) comes);
       leaves = subst (λ (o : Outcome). Leaves old o.output new) (sym comes) stops.leaves;
@@ -467,14 +467,14 @@ Works-stopped_run old new job status stops =
 
 -- the parts were not read again
 abbrev unread : Course → Course
-unread met = record met { read = Err (read.OutOfMemory memory); shown = None }
+unread met = record met { profile = Err (read.OutOfMemory memory); report = None }
 
-unreported : (old new : Outside) (job : Job) (view : View) (met : Course) (ran : Option Ran)
+unreported : (old new : Outside) (job : Job) (view : View) (met : Course) (ran : Option RunOutcome)
     → IfSome ran (IsReported old job view (unread met) new)
 unreported old new job view met None = tt
 unreported old new job view met (Some ran) = record {
   reading = IsReading-wanting new.files old.load_faults new.load_faults
-      (no_rows (events_shown job.branches event_names)) (listed job ran.stop) (read.OutOfMemory memory) refl;
+      (no_rows (events_shown job.branches event_names)) (parts_to_read job ran.stop) (read.OutOfMemory memory) refl;
   profile = tt;
   report = tt;
 }
@@ -483,36 +483,36 @@ unreported old new job view met (Some ran) = record {
 pub Works-stopped_report : (old new : Outside) (job : Job) (view : View) (status : Status)
     → StopsBefore (parts_asked job.watching) old job status new → Works old (words.Report job view) status new
 Works-stopped_report old new job view status stops =
-    let comes = stops.comes (reporting_own (Err (read.OutOfMemory memory)) None) (last_status job stops.met.ran) in record {
+    let comes = stops.comes (reporting_own (Err (read.OutOfMemory memory)) None) (last_status job stops.met.run) in record {
       course = unread stops.met;
       met = (
-        record { program = stops.is.program; input = stops.is.input; ran = stops.is.ran },
-        unreported old new job view stops.met stops.met.ran,
+        record { program = stops.is.program; input = stops.is.input; run = stops.is.run },
+        unreported old new job view stops.met stops.met.run,
       );
       status_is = sym (ap (λ o. o.status) comes);
       leaves = subst (λ (o : Outcome). Leaves old o.output new) (sym comes) stops.leaves;
     }
 
 -- ---- what was met where a run came to its end
-abbrev pub met_to_end : {parts : Guest → Writing} (old new : Outside) (job : Job) (run : Ended)
+abbrev pub met_to_end : {parts : Program → Writing} (old new : Outside) (job : Job) (run : RunEnd)
     → RanToEnd parts IsAny old job run new → Course
 met_to_end old new job run ran =
     met_running ran.program ran.input (record { syms = ran.syms; stop = Ok run; output = ran.output })
 
 -- what the work comes to then
-pub past_run : {parts : Guest → Writing} (old new : Outside) (job : Job) (run : Ended)
+pub past_run : {parts : Program → Writing} (old new : Outside) (job : Job) (run : RunEnd)
     (ran : RanToEnd parts IsAny old job run new) (gates : List Gate)
     (last : Status)
-    → passed (reading (met_to_end old new job run ran) ++ loading job (met_to_end old new job run ran)
-    ++ run_gate job (met_to_end old new job run ran).ran ∷ gates) last
-    ≡ at_gate None ran.output (passed gates last)
+    → gates_outcome (reading (met_to_end old new job run ran) ++ loading job (met_to_end old new job run ran)
+    ++ run_gate job (met_to_end old new job run ran).run ∷ gates) last
+    ≡ at_gate None ran.output (gates_outcome gates last)
 past_run old new job run ran gates last =
     by_loading job (met_to_end old new job run ran) None gates last refl
     (ap (λ s. or_next s (others job ran.program (Ok ran.input))) ran.accepted
     ∙ fits_all job ran.program ran.input ran.syms ran.fits)
 
 -- a run that came to its end has had no put refused
-pub whole_refused : {writing : Writing} (guest : Guest) (run : Ended) (output : Output)
+pub whole_refused : {writing : Writing} (guest : Program) (run : RunEnd) (output : Output)
     → IsWhole writing guest run output → output.refused ≡ None
 whole_refused guest run output is = ap (λ (o : Output). o.refused) is.output
 
@@ -522,16 +522,16 @@ pub as_watching : (w : Watching) (job : Job) → job.watching ≡ w → (P : Job
 as_watching w job is P known = subst P (ap (λ v. record job { watching = v }) (sym is)) known
 
 -- what puts nothing behind the last part; how it ended, by the fields of what the run answered
-pub Works-run_as : (old new : Outside) (job : Job) (run inside : Ended) (status : Status)
+pub Works-run_as : (old new : Outside) (job : Job) (run inside : RunEnd) (status : Status)
     → watch_gates job.watching job.base None ≡ [] → status ≡ end_status inside.end → inside ≡ run
     → RanToEnd (parts_asked job.watching) IsAny old job run new → Works old (Run job) status new
 Works-run_as old new job run inside status quiet is same ran =
     let comes = past_run old new job run ran (watch_gates job.watching job.base None) (end_status run.end)
-    ∙ ap (λ gates. at_gate None ran.output (passed gates (end_status run.end))) quiet in
-    subst (λ s. Works old (Run job) s new) (sym (is ∙ ap (λ (r : Ended). end_status r.end) same)) (record {
+    ∙ ap (λ gates. at_gate None ran.output (gates_outcome gates (end_status run.end))) quiet in
+    subst (λ s. Works old (Run job) s new) (sym (is ∙ ap (λ (r : RunEnd). end_status r.end) same)) (record {
       course = met_to_end old new job run ran;
       met = (
-        record { program = ran.load; input = ran.fed; ran = (ran.symbols, ran.sound, (ran.fits, ran.whole)) },
+        record { program = ran.load; input = ran.fed; run = (ran.symbols, ran.sound, (ran.fits, ran.whole)) },
         tt,
       );
       status_is = sym (ap (λ o. o.status) comes);
@@ -553,13 +553,13 @@ quiet : (old : Outside) → Leaves old nothing old
 quiet old = Leaves-nothing old old refl refl refl
 
 -- memory was wanting for the words
-pub Works-unread : (old : Outside) (asked : Asked) → Works old asked (wanted.OutOfMemory memory) old
+pub Works-unread : (old : Outside) (asked : Request) → Works old asked (wanted.OutOfMemory memory) old
 Works-unread old asked = by asked
   where
     unread : Course
     unread = record no_course { words_read = false }
 
-    by : (a : Asked) → Works old a (wanted.OutOfMemory memory) old
+    by : (a : Request) → Works old a (wanted.OutOfMemory memory) old
     by (Run job) =
         Works-stopped_run old old job (wanted.OutOfMemory memory)
         (Stops-wanting old old job (wanted.OutOfMemory memory) refl (quiet old))
@@ -580,7 +580,7 @@ Works-unread old asked = by asked
     by Usage = record { course = unread; met = refl; status_is = refl; leaves = quiet old }
 
 -- the command line is faulty
-pub Works-usage : (old : Outside) (asked : Asked) → asked ≡ Usage → Works old asked wanted.Usage old
+pub Works-usage : (old : Outside) (asked : Request) → asked ≡ Usage → Works old asked wanted.Usage old
 Works-usage old asked is =
     subst (λ a. Works old a wanted.Usage old) (sym is)
     (record { course = no_course; met = refl; status_is = refl; leaves = quiet old })
@@ -589,7 +589,7 @@ Works-usage old asked is =
 Works-annotates : (old new : Outside) (names : List (List ℕ)) (view : View) (status : Status)
     → Annotates old names view status new → Works old (words.Annotate names view) status new
 Works-annotates old new names view status work = record {
-  course = record no_course { read = work.found; shown = work.shown };
+  course = record no_course { profile = work.found; report = work.report };
   met = work.met;
   status_is = work.status_is;
   leaves = work.leaves;
@@ -597,7 +597,7 @@ Works-annotates old new names view status work = record {
 
 -- the words ask for a report on files
 pub Works-annotated : (old new : Outside) (status : Status) (names items : List (Bor (List ℕ))) (view : View)
-    (requested asked : Asked)
+    (requested asked : Request)
     → names ≡ items → requested ≡ words.Annotate (map (λ name. name.now) items) view → requested ≡ asked
     → Annotates old (map (λ name. name.now) names) view status new
     → Works old asked status new
@@ -607,7 +607,7 @@ Works-annotated old new status names items view requested asked same is asks wor
     (Works-annotates old new (map (λ name. name.now) names) view status work)
 
 -- some file is named
-pub some_named : (names items : List (Bor (List ℕ))) (view : View) (requested : Asked)
+pub some_named : (names items : List (Bor (List ℕ))) (view : View) (requested : Request)
     → names ≡ items → requested ≡ words.Annotate (map (λ name. name.now) items) view → IsWithin requested
     → 0 < length names
 some_named names items view requested same is within =
@@ -618,13 +618,13 @@ some_named names items view requested same is within =
     by (item ∷ items) same some = subst (λ n. 0 < length n) (sym same) (omega arith)
 
 -- the words ask for a demonstration
-pub Works-demonstrated : (old new : Outside) (status : Status) (size : ℕ) (requested asked : Asked)
+pub Works-demonstrated : (old new : Outside) (status : Status) (size : ℕ) (requested asked : Request)
     → requested ≡ words.Demo size → requested ≡ asked → Works old (words.Demo size) status new
     → Works old asked status new
 Works-demonstrated old new status size requested asked is asks works =
     subst (λ a. Works old a status new) (sym is ∙ asks) works
 
 -- the size is one that a demonstration may have
-pub size_within : (size : ℕ) (requested : Asked) → requested ≡ words.Demo size → IsWithin requested
+pub size_within : (size : ℕ) (requested : Request) → requested ≡ words.Demo size → IsWithin requested
     → IsBetween 1 100000 size
 size_within size requested is within = subst (λ r. IsWithin r) is within

@@ -1,7 +1,7 @@
 -- Whose fault a status is: the last call of its kind was answered so.
 use Rattle.std.specs.Prelude.{◌≡◌, ◌⊎◌, ℕ, ◌++◌, List, [], ◌∷◌, Err}
 use Rattle.outside.specs.Outside.{Log}
-use Rattle.outside.specs.Told.{Call, Loaded, Put, Wrote}
+use Rattle.outside.specs.Journal.{Call, Loaded, Put, Wrote}
 use Rattle.outside.specs.declared.folder.LoadError.{LoadError}
 use Rattle.outside.specs.declared.folder.LoadError.TheVariants as load
 use Rattle.outside.specs.declared.folder.PutError.TheVariants as put

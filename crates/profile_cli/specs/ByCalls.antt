@@ -2,7 +2,7 @@
 use Rattle.std.specs.Prelude.{◌≡◌, ℕ, ◌++◌, Bool, true, false, Contains, List, [], ◌∷◌, length, map, Option, Some}
 use Rattle.std.specs.Prelude.{None, Ok}
 use Rattle.outside.specs.Outside.{Log, Named, Outside, Tells, puts_of}
-use Rattle.outside.specs.Told.{AreWritesOf, AreWritten, Call, Loaded, Put, Wrote}
+use Rattle.outside.specs.Journal.{AreWritesOf, AreWritten, Call, Loaded, Put, Wrote}
 use Rattle.cg_read.specs.Profiles.{Contents}
 use Rattle.annotate.specs.Files.{AreFilesShown}
 use Rattle.annotate.specs.Report.{SourceTexts}
@@ -12,7 +12,7 @@ use Rattle.command_status.specs.Ends.{end_status}
 use Rattle.command_status.specs.Lines.{message_of}
 use Rattle.command_status.specs.Numbers.{is_short}
 use Rattle.command_status.specs.declared.status.Status.{Status}
-use Rattle.command_words.specs.Asked.{Asked, Job, Report, View}
+use Rattle.command_words.specs.Request.{Request, Job, Report, View}
 use Rattle.profile_cli.specs.HasRun.{RunOf, files_put}
 use Rattle.profile_cli.specs.Headline.{ReportOn}
 use Rattle.command_steps.specs.Loading.{input_limit}
@@ -55,17 +55,17 @@ pub record IsReportByCalls (job : Job) (view : View) (status : Status) (log : Lo
   pub fed : IsFed job.input input feeding
   pub run : RunOf job program input
   pub status_is : status ≡ end_status run.stop.end
-  pub shown : ReportOn run.guest run.trace view
-  pub sources : AreShown view.auto shown.report.profile shown.texts
+  pub report_on : ReportOn run.guest run.trace view
+  pub sources : AreShown view.auto report_on.report.profile report_on.texts
   pub calls : log.calls
       ≡ Loaded (program_of job.args) program_limit (Ok program)
-      ∷ feeding ++ puts_of (files_put run) ++ loads_back (files_put run) ++ loads_of shown.texts
-  pub out : AreWrittenThen (pieces 1 run.trace) shown.text log.out
+      ∷ feeding ++ puts_of (files_put run) ++ loads_back (files_put run) ++ loads_of report_on.texts
+  pub out : AreWrittenThen (pieces 1 run.trace) report_on.text log.out
   pub err : AreWrittenThen (pieces 2 run.trace) (message_of status) log.err
 
 -- Where the words ask for `report`, and the folder gives back what was put into it, that is all that was called for,
 -- unless the work stopped short.
-abbrev pub IsHeadlineByCalls : Outside → Asked → Status → Outside → Type 0
+abbrev pub IsHeadlineByCalls : Outside → Request → Status → Outside → Type 0
 IsHeadlineByCalls old asked status new =
     (job : Job) (view : View) → asked ≡ Report job view → is_short status ≡ false
     → (log : Log) × Tells old log new × (GivesBack log.calls → IsReportByCalls job view status log)

@@ -4,23 +4,23 @@ use Rattle.event_costs.specs.Costs.{event_names, events_shown}
 use Rattle.event_costs.specs.declared.outcome.End.{End}
 use Rattle.event_costs.specs.declared.outcome.End.TheVariants as end
 use Rattle.outside.specs.Outside.{Log, Outside, Tells, done_then, nothing_done}
-use Rattle.outside.specs.Told.{Wrote}
+use Rattle.outside.specs.Journal.{Wrote}
 use Rattle.outside.specs.declared.sink.WriteError.{WriteError}
 use Rattle.demo_make.specs.Program.{IsFileOf, demo}
 use Rattle.profile_files.specs.Joined.{no_rows}
 use Rattle.profile_run.specs.Parts.{plain_parts}
-use Rattle.profile_run.specs.Runs.{Ended}
+use Rattle.profile_run.specs.Runs.{RunEnd}
 use Rattle.report_laws.specs.Exact.{parts_wanted}
 use Rattle.command_status.specs.Ends.{end_status}
 use Rattle.command_status.specs.Lines.{message_of}
 use Rattle.command_status.specs.declared.status.Status.{Status}
 use Rattle.command_status.specs.declared.status.Status.TheVariants.{Done, OutOfMemory, Usage}
-use Rattle.command_words.specs.Asked as words
-use Rattle.command_words.specs.Asked.{Asked, Job, View}
+use Rattle.command_words.specs.Request as words
+use Rattle.command_words.specs.Request.{Request, Job, View}
 use Rattle.profile_cli.specs.Blame.{IsToBlame}
 use Rattle.profile_cli.specs.Demo.{demo_job, figures_of}
 use Rattle.command_steps.specs.Saying.{after_line}
-use Rattle.command_steps.specs.Stages.{AreWritesOrWants, Gives, Quiet, ReadsAll, Reports, Then, DoesAnnotate, met}
+use Rattle.command_steps.specs.Stages.{AreWritesOrWants, Gives, Quiet, ReadsAll, Reports, Then, DoesAnnotate, final_status}
 use Rattle.profile_cli.specs.Stages.{LoadsAndRuns, PutsWaits, Runs}
 use Rattle.profile_cli.specs.Watching.{parts_asked}
 use Rattle.byte_text.specs.Memory.{memory}
@@ -44,13 +44,13 @@ DoesReport job view =
     Gives (end_status ran.1.end))))
 
 -- the parts of a demonstration, whose program has so many bytes, are loaded and joined, and its summary is written
-abbrev pub SumsUp : ℕ → ℕ → ℕ → Ended → Log → Result (Unit {0}) Status → Type 0
+abbrev pub SumsUp : ℕ → ℕ → ℕ → RunEnd → Log → Result (Unit {0}) Status → Type 0
 SumsUp size len code run =
     Then (ReadsAll (no_rows (events_shown false event_names)) (parts_wanted demo_job.base run.parts)) (λ p.
     WritesSummary (figures_of size len code run) p)
 
 -- where it exited
-abbrev pub SumsUpIf : ℕ → ℕ → Ended → End → Log → Result Status Status → Type 0
+abbrev pub SumsUpIf : ℕ → ℕ → RunEnd → End → Log → Result Status Status → Type 0
 SumsUpIf size len run (end.Exited code) = Then (SumsUp size len code run) (λ summed. Gives Done)
 SumsUpIf size len run stop = Gives (end_status stop)
 
@@ -66,7 +66,7 @@ DoesDemo size =
     Then (Runs plain_parts demo_job file []) (λ ran.
     SumsUpIf size (length file) ran.1 ran.1.end))
 
-abbrev pub DoesAsked : Asked → Log → Result Status Status → Type 0
+abbrev pub DoesAsked : Request → Log → Result Status Status → Type 0
 DoesAsked (words.Run job) = DoesRun job
 DoesAsked (words.Report job view) = DoesReport job view
 DoesAsked (words.Annotate names view) = DoesAnnotate names view
@@ -77,13 +77,13 @@ DoesAsked words.Usage = Gives Usage
 
 -- All that was done: the work, and then the writes of the line on how it ended. Where the words could not be read for want
 -- of memory, that is the work.
-pub record IsTold (old : Outside) (asked : Asked) (status : Status) (new : Outside) : Type 0 where
+pub record MakesCalls (old : Outside) (asked : Request) (status : Status) (new : Outside) : Type 0 where
   pub work : Log
   pub comes : Result Status Status
   pub does : DoesAsked asked work comes ⊎ ((work ≡ nothing_done) × (comes ≡ Err (OutOfMemory memory)))
   pub line : List Wrote
   pub answer : Result (Unit {0}) WriteError
-  pub writes : AreWritesOrWants (message_of (met comes)) line answer
-  pub status_is : status ≡ after_line (met comes) answer
+  pub writes : AreWritesOrWants (message_of (final_status comes)) line answer
+  pub status_is : status ≡ after_line (final_status comes) answer
   pub blame : IsToBlame status (done_then work (record nothing_done { err = line }))
   pub tells : Tells old (done_then work (record nothing_done { err = line })) new

@@ -2,14 +2,14 @@
 use Rattle.std.specs.Prelude.{◌≡◌, ◌≢◌, ℕ, List, [], ◌∷◌, Option, Some, None, Ok}
 use Rattle.outside.specs.Files.{Files, Rose, file}
 use Rattle.outside.specs.Outside.{Leaves, Outside, Output, and_then, nothing}
-use Rattle.profile_files.specs.Loads.{held}
+use Rattle.profile_files.specs.Loads.{faultless_load}
 use Rattle.outside.specs.Load.{Load, bytes_of}
 use Rattle.command_status.specs.Ends.{end_status}
 use Rattle.command_status.specs.Lines.{message_of}
 use Rattle.command_status.specs.declared.status.Status.{Status}
 use Rattle.command_status.specs.declared.status.Status.TheVariants.{Usage, OutOfMemory}
-use Rattle.command_words.specs.Asked as words
-use Rattle.command_words.specs.Asked.{Asked, Job}
+use Rattle.command_words.specs.Request as words
+use Rattle.command_words.specs.Request.{Request, Job}
 use Rattle.profile_cli.specs.Course.{Course, no_course}
 use Rattle.profile_cli.specs.ExactDemo.{IsExactDemo}
 use Rattle.command_steps.specs.Gates.{first_stop}
@@ -23,15 +23,15 @@ use Rattle.byte_text.specs.Memory.{memory}
 use Rattle.command_steps.specs.Certain.{Decides, IsCalm, IsCertainReport}
 
 -- what a load gives of these contents, where a file is named
-abbrev pub held_if : Files → Option (List ℕ) → ℕ → Load
-held_if files None limit = Ok []
-held_if files (Some name) limit = held (file files name) limit
+abbrev pub faultless_load_if : Files → Option (List ℕ) → ℕ → Load
+faultless_load_if files None limit = Ok []
+faultless_load_if files (Some name) limit = faultless_load (file files name) limit
 
 -- what `run` meets over these files, as far as it loads
-abbrev pub held_course : Files → Job → Course
-held_course files job = record no_course {
-  program = held (file files (program_of job.args)) program_limit;
-  input = held_if files job.input input_limit;
+abbrev pub faultless_course : Files → Job → Course
+faultless_course files job = record no_course {
+  program = faultless_load (file files (program_of job.args)) program_limit;
+  input = faultless_load_if files job.input input_limit;
 }
 
 -- a line on how the command ended
@@ -46,12 +46,12 @@ pub record Ends (old : Outside) (job : Job) (met : Course) (status : Status) (ne
 
 -- The first gate of the loading that stops gives the status, and else the guest's end does, where no put and no write
 -- failed; and then the report on it is exact. A demonstration has no such gate, and is exact then.
-abbrev pub IsCertain : Outside → Files → Asked → Status → Outside → Type 0
+abbrev pub IsCertain : Outside → Files → Request → Status → Outside → Type 0
 IsCertain old files (words.Run job) status new =
-    Decides (first_stop (loading job (held_course files job)))
-    (IsCalm old new → Ends old job (held_course files job) status new) status
+    Decides (first_stop (loading job (faultless_course files job)))
+    (IsCalm old new → Ends old job (faultless_course files job) status new) status
 IsCertain old files (words.Report job view) status new =
-    Decides (first_stop (loading job (held_course files job)))
+    Decides (first_stop (loading job (faultless_course files job)))
     (IsCalm old new → IsExactReport old job view status new) status
 IsCertain old files (words.Annotate names view) status new = IsCertainReport old files names view status new
 IsCertain old files (words.Demo size) status new =
@@ -59,7 +59,7 @@ IsCertain old files (words.Demo size) status new =
 IsCertain old files words.Usage status new = status ≡ Usage
 
 -- Where no load failed in the call and memory was not wanting, the status is certain.
-abbrev pub IsComplete : Outside → Asked → Status → Outside → Type 0
+abbrev pub IsComplete : Outside → Request → Status → Outside → Type 0
 IsComplete old asked status new =
     (files : Files) → old.files ≡ Some files → (Rose old.load_faults new.load_faults → ⊥) → status ≢ OutOfMemory memory
     → IsCertain old files asked status new

@@ -8,41 +8,41 @@ use Rattle.cg_read.specs.Profiles.{Contents}
 use Rattle.cycles.specs.Limits.{pair_calls}
 use Rattle.once_each.specs.Profiles.{Numbering}
 use Rattle.once_each.specs.Texts.{numbers_in}
-use Rattle.profile_run.specs.Guest.{Guest, head_of_run}
-use Rattle.profile_run.specs.Trace.{Taken}
+use Rattle.profile_run.specs.Program.{Program, head_of_run}
+use Rattle.profile_run.specs.Trace.{RunStep}
 use Rattle.reads_back.specs.Rows.{naming}
-use Rattle.run_laws.specs.Runs.{events_seen}
+use Rattle.run_laws.specs.Runs.{events_with_stacks}
 
 -- the numbers that a profile has for the functions and files of the guest
-abbrev pub numbers_of : Guest → Contents → Numbering
+abbrev pub numbers_of : Program → Contents → Numbering
 numbers_of guest p = numbers_in p (naming (head_of_run guest) guest.syms)
 
 -- a test of the function, the file and the line of an instruction
-abbrev pub passes : Guest → Contents → (ℕ → ℕ → ℕ → Bool) → ℕ → Bool
+abbrev pub passes : Program → Contents → (ℕ → ℕ → ℕ → Bool) → ℕ → Bool
 passes guest p test pc =
     test ((numbers_of guest p).func (place_of guest.syms pc).func.0)
     ((numbers_of guest p).file (place_of guest.syms pc).file.0) (place_of guest.syms pc).line
 
 -- what the events cost whose instruction passes
-abbrev pub cost_where : Guest → List Taken → Contents → (ℕ → ℕ → ℕ → Bool) → ℕ → ℕ
+abbrev pub cost_where : Program → List RunStep → Contents → (ℕ → ℕ → ℕ → Bool) → ℕ → ℕ
 cost_where guest trace p test kind =
-    sum_by (λ x. if passes guest p test x.event.done.pc then slice_index x.cost kind else 0) (events_seen trace)
+    sum_by (λ x. if passes guest p test x.event.done.pc then slice_index x.cost kind else 0) (events_with_stacks trace)
 
 -- a frame that was entered by a call of the one function by the other
-abbrev pub is_of_pair : Guest → Contents → ℕ → ℕ → Activation → Bool
+abbrev pub is_of_pair : Program → Contents → ℕ → ℕ → Activation → Bool
 is_of_pair guest p caller callee frame =
     option_map_or (λ arc. (numbers_of guest p).func arc.caller.0 == caller
     && (numbers_of guest p).func arc.callee.0 == callee) frame.arc false
 
 -- how many such frames the events push
-abbrev pub frames_pushed : Guest → List Taken → Contents → ℕ → ℕ → ℕ
+abbrev pub frames_pushed : Program → List RunStep → Contents → ℕ → ℕ → ℕ
 frames_pushed guest trace p caller callee =
     sum_by (λ x. option_map_or (λ frame. if is_of_pair guest p caller callee frame then 1 else 0)
-    (change guest.syms x.event x.stack).pushed 0) (events_seen trace)
+    (change guest.syms x.event x.stack).pushed 0) (events_with_stacks trace)
 
 -- Whatever is told of places is what the events there cost: of a function by itself, of the functions of a cycle, of a
 -- line of a source, and of all places (the totals). The number of calls of a pair is that of the frames they pushed.
-pub record CountEvents (guest : Guest) (trace : List Taken) (p : Contents) : Type 0 where
+pub record CountEvents (guest : Program) (trace : List RunStep) (p : Contents) : Type 0 where
   pub costs : (test : ℕ → ℕ → ℕ → Bool) (kind : ℕ) → kind < length p.events
       → sum_by (λ row. if test row.func row.file row.line then slice_index row.cost kind else 0) p.self_rows
       ≡ cost_where guest trace p test kind

@@ -9,20 +9,20 @@ use Rattle.cg_read.specs.Profiles.{Contents}
 use Rattle.outside.specs.Load.{Load}
 use Rattle.profile_files.specs.declared.fault.ReadFault.{ReadFault}
 use Rattle.profile_files.specs.declared.fault.ReadFault.TheVariants as read
-use Rattle.profile_run.specs.Runs.{Ended}
+use Rattle.profile_run.specs.Runs.{RunEnd}
 use Rattle.profile_run.specs.declared.run_fault.RunFault.{RunFault}
 use Rattle.byte_text.specs.Memory.{memory}
-use Rattle.command_steps.specs.Annotate.{Shown}
-use Rattle.command_steps.specs.Summary.{Summed}
+use Rattle.command_steps.specs.Annotate.{ReportOutcome}
+use Rattle.command_steps.specs.Summary.{SummaryOutcome}
 
 -- a run: the map of the program's symbols, how it stopped, and what it has put out
-pub record Ran : Type 0 where
+pub record RunOutcome : Type 0 where
   pub syms : SymbolMap
-  pub stop : Result Ended RunFault
+  pub stop : Result RunEnd RunFault
   pub output : Output
 
 -- The report on waiting: its text, and how the put of it went.
-pub record Waited : Type 0 where
+pub record WaitsOutcome : Type 0 where
   pub text : List ℕ
   pub put : Result (Unit {0}) PutError
 
@@ -31,15 +31,15 @@ pub record Course : Type 0 where
   pub words_read : Bool
   pub program : Load
   pub input : Load
-  pub ran : Option Ran
+  pub run : Option RunOutcome
   -- what waiting cost in it
-  pub waited : Option Waited
+  pub waits : Option WaitsOutcome
   -- what profile files read as, joined
-  pub read : Result Contents ReadFault
+  pub profile : Result Contents ReadFault
   -- the report on that
-  pub shown : Option Shown
+  pub report : Option ReportOutcome
   -- the summary of it
-  pub summed : Option Summed
+  pub summary : Option SummaryOutcome
 
 -- nothing is known but that the words were read
 abbrev pub no_course : Course
@@ -47,9 +47,9 @@ no_course = record {
   words_read = true;
   program = Err (load.OutOfMemory memory);
   input = Err (load.OutOfMemory memory);
-  ran = None;
-  waited = None;
-  read = Err (read.OutOfMemory memory);
-  shown = None;
-  summed = None;
+  run = None;
+  waits = None;
+  profile = Err (read.OutOfMemory memory);
+  report = None;
+  summary = None;
 }

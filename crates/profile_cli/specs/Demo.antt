@@ -11,13 +11,13 @@ use Rattle.cg_read.specs.Profiles.{IsProfile}
 use Rattle.demo_make.specs.Program.{IsFileOf, demo}
 use Rattle.profile_files.specs.Joined.{no_rows}
 use Rattle.profile_files.specs.Reading.{IsReading}
-use Rattle.profile_run.specs.Guest.{Guest}
+use Rattle.profile_run.specs.Program.{Program}
 use Rattle.profile_run.specs.Parts.{plain_parts}
-use Rattle.profile_run.specs.Runs.{Ended, Runs}
+use Rattle.profile_run.specs.Runs.{RunEnd, Runs}
 use Rattle.profile_run.specs.declared.run_fault.RunFault.{RunFault}
-use Rattle.command_words.specs.Asked.{Job, Nothing, job}
-use Rattle.profile_cli.specs.Course.{Course, Ran}
-use Rattle.profile_cli.specs.OwnReport.{listed}
+use Rattle.command_words.specs.Request.{Job, Nothing, job}
+use Rattle.profile_cli.specs.Course.{Course, RunOutcome}
+use Rattle.profile_cli.specs.OwnReport.{parts_to_read}
 use Rattle.profile_cli.specs.Program.{IsMapOf, guest_of}
 use Rattle.command_steps.specs.declared.summary.Figures.{Figures}
 use Rattle.command_steps.specs.Summary.{IsSummed}
@@ -27,11 +27,11 @@ abbrev pub demo_job : Job
 demo_job = record (job Nothing (λ _. []) (codes "demo" ∷ [])) { base = codes "demo.out" }
 
 -- the guest of the run, from the bytes of the program's file
-abbrev pub demo_guest : List ℕ → SymbolMap → Guest
+abbrev pub demo_guest : List ℕ → SymbolMap → Program
 demo_guest file syms = guest_of demo_job (image_of file) [] syms
 
 -- what is told of a run that exited with a code, where the program's file has so many bytes
-abbrev pub figures_of : ℕ → ℕ → ℕ → Ended → Figures
+abbrev pub figures_of : ℕ → ℕ → ℕ → RunEnd → Figures
 figures_of size len code run = record {
   size = size;
   len = len;
@@ -42,18 +42,18 @@ figures_of size len code run = record {
 }
 
 -- the summary of a run that exited
-abbrev pub IsSummedEnd : Outside → ℕ → List ℕ → Course → Outside → Ended → End → Type 0
+abbrev pub IsSummedEnd : Outside → ℕ → List ℕ → Course → Outside → RunEnd → End → Type 0
 IsSummedEnd old size file met new run (end.Exited code) =
-    IfSome met.summed (λ s. IfOk met.read (λ p. IsSummed old (figures_of size (length file) code run) p new s))
+    IfSome met.summary (λ s. IfOk met.profile (λ p. IsSummed old (figures_of size (length file) code run) p new s))
 IsSummedEnd old size file met new run stop = Unit {0}
 
-abbrev pub IsSummedStop : Outside → ℕ → List ℕ → Course → Outside → Result Ended RunFault → Type 0
+abbrev pub IsSummedStop : Outside → ℕ → List ℕ → Course → Outside → Result RunEnd RunFault → Type 0
 IsSummedStop old size file met new (Ok run) = IsSummedEnd old size file met new run run.end
 IsSummedStop old size file met new (Err fault) = Unit {0}
 
 -- The run may go so: the program is that of the size, and it puts out what fits how it stopped. Its parts may read as
 -- the profile that was found, and the summary may go so.
-pub record IsDemoRan (old : Outside) (size : ℕ) (met : Course) (new : Outside) (ran : Ran) : Type 0 where
+pub record IsDemoRan (old : Outside) (size : ℕ) (met : Course) (new : Outside) (ran : RunOutcome) : Type 0 where
   pub file : List ℕ
   pub loaded : met.program ≡ Ok file
   pub made : IsFileOf (demo size) file
@@ -63,7 +63,7 @@ pub record IsDemoRan (old : Outside) (size : ℕ) (met : Course) (new : Outside)
   pub runs : Runs (plain_parts (demo_guest file ran.syms)) (demo_guest file ran.syms) old ran.stop ran.output new
   -- from what the folder holds once they were put
   pub reading : IsReading new.files old.load_faults new.load_faults (no_rows (events_shown false event_names))
-      (listed demo_job ran.stop) met.read
+      (parts_to_read demo_job ran.stop) met.profile
   -- as every profile is
-  pub profile : IfOk met.read IsProfile
-  pub summed : IsSummedStop old size file met new ran.stop
+  pub profile : IfOk met.profile IsProfile
+  pub summary : IsSummedStop old size file met new ran.stop

@@ -6,9 +6,9 @@ use Rattle.outside.specs.Outside.{Outside, with_files}
 use Rattle.outside.specs.Write.{taken_more}
 use Rattle.event_costs.specs.declared.outcome.End.{End}
 use Rattle.event_costs.specs.declared.outcome.End.TheVariants as end
-use Rattle.profile_run.specs.Trace.{Taken, sent}
+use Rattle.profile_run.specs.Trace.{RunStep, sent_bytes}
 use Rattle.demo_make.specs.Program.{IsFileOf, demo}
-use Rattle.run_laws.specs.Runs.{events_seen}
+use Rattle.run_laws.specs.Runs.{events_with_stacks}
 use Rattle.command_status.specs.Ends.{end_status}
 use Rattle.command_status.specs.declared.status.Status.{Status}
 use Rattle.command_status.specs.declared.status.Status.TheVariants.{Done}
@@ -22,14 +22,14 @@ demo_status (end.Exited code) = Done
 demo_status stop = end_status stop
 
 -- for each event that is shown, what all events of a trace cost
-abbrev pub totals_of : List Taken → List ℕ
+abbrev pub totals_of : List RunStep → List ℕ
 totals_of trace =
-    map (λ kind. sum_by (λ x. slice_index x.cost kind) (events_seen trace))
+    map (λ kind. sum_by (λ x. slice_index x.cost kind) (events_with_stacks trace))
     (range_with_len 0 (length (events_shown false event_names)))
 
 -- What is shown of a trace of the program of a size, whose file has so many bytes: the summary, where it exited. There
 -- were so many threads then, and so many files were put.
-abbrev pub summary_of_trace : ℕ → ℕ → List Taken → ℕ → ℕ → End → List ℕ
+abbrev pub summary_of_trace : ℕ → ℕ → List RunStep → ℕ → ℕ → End → List ℕ
 summary_of_trace size len trace threads files (end.Exited code) =
     summary (record {
       size = size;
@@ -53,7 +53,7 @@ pub record IsExactDemo (old : Outside) (size : ℕ) (status : Status) (line : Li
   pub files : new.files ≡ option_map (with_files (files_put run)) old.files
   pub out : new.out.taken
       ≡ taken_more old.out.taken
-      (sent 1 run.trace
-      ++ summary_of_trace size (length file) run.trace run.is.last.0.whole.sys.guest.made (length (files_put run))
+      (sent_bytes 1 run.trace
+      ++ summary_of_trace size (length file) run.trace run.is.last.0.engine.kernel.guest.made (length (files_put run))
       run.stop.end)
-  pub err : new.err.taken ≡ taken_more old.err.taken (sent 2 run.trace ++ line)
+  pub err : new.err.taken ≡ taken_more old.err.taken (sent_bytes 2 run.trace ++ line)

@@ -8,12 +8,12 @@ use Rattle.std.specs.declared.io.ErrorKind.TheVariants as kind
 use Rattle.std.specs.declared.vec.IntoIter.{IntoIter}
 use Rattle.command_status.specs.Numbers.{number_of}
 use Rattle.command_status.specs.declared.status.Status.{Status}
-use Rattle.command_words.specs.Asked.{Asked, Usage, asked}
+use Rattle.command_words.specs.Request.{Request, Usage, read_request}
 use Rattle.outside.specs.Outside.{Outside}
 use Rattle.profile_cli.specs.Profile.{IsReply}
 
 -- There is a status so replied, and this is its number.
-pub record RepliesWith (old : Outside) (words : Asked) (number : ℕ) (new : Outside) : Type 0 where
+pub record RepliesWith (old : Outside) (words : Request) (number : ℕ) (new : Outside) : Type 0 where
   pub status : Status
   pub reply : IsReply old words status new
   pub number_is : number ≡ number_of status
@@ -26,7 +26,7 @@ pub record WantsMemory (old : Outside) (number : ℕ) (new : Outside) : Type 0 w
 -- The words are the arguments of the process, and none is left out. Where they can't be read as text they are faulty.
 abbrev pub ExitsWith : Outside → Result (IntoIter (String Global) Global) Error → ℕ → Outside → Type 0
 ExitsWith old (Ok args) number new =
-    RepliesWith old (asked (map (λ word. string_bytes word) (into_iter_items args))) number new
+    RepliesWith old (read_request (map (λ word. string_bytes word) (into_iter_items args))) number new
     ⊎ WantsMemory old number new
 ExitsWith old (Err error) number new = ((error_kind error ≢ kind.OutOfMemory) × RepliesWith old Usage number new)
     ⊎ ((error_kind error ≡ kind.OutOfMemory) × WantsMemory old number new)

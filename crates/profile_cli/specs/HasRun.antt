@@ -5,12 +5,12 @@ use Rattle.outside.specs.Outside.{Named, Outside, with_files}
 use Rattle.elf_read.specs.Image.{image_of}
 use Rattle.sym_map.specs.SymbolMap.{SymbolMap}
 use Rattle.profile_files.specs.Loads.{IsLoad}
-use Rattle.profile_run.specs.Guest.{Guest}
-use Rattle.profile_run.specs.Trace.{IsTraceOf, Stop, Taken}
+use Rattle.profile_run.specs.Program.{Program}
+use Rattle.profile_run.specs.Trace.{IsTraceOf, Stop, RunStep}
 use Rattle.command_status.specs.Ends.{end_status}
 use Rattle.command_status.specs.Numbers.{is_short}
 use Rattle.command_status.specs.declared.status.Status.{Status}
-use Rattle.command_words.specs.Asked.{Asked, Job, Report, Run, View}
+use Rattle.command_words.specs.Request.{Request, Job, Report, Run, View}
 use Rattle.command_steps.specs.Loading.{IsLoadIf, input_limit}
 use Rattle.profile_cli.specs.Order.{program_limit}
 use Rattle.profile_cli.specs.Program.{IsMapOf, guest_of}
@@ -21,9 +21,9 @@ use Rattle.profile_cli.specs.Words.{program_of}
 pub record RunOf (job : Job) (program input : List ℕ) : Type 0 where
   pub syms : SymbolMap
   pub symbols : IsMapOf (image_of program) syms
-  pub guest : Guest
+  pub guest : Program
   pub guest_is : guest ≡ guest_of job (image_of program) input syms
-  pub trace : List Taken
+  pub trace : List RunStep
   pub stop : Stop
   pub is : IsTraceOf guest trace stop
 
@@ -45,22 +45,22 @@ pub record HasRun (old : Outside) (job : Job) (status : Status) (new : Outside) 
 -- ---- what is so of every run
 
 -- `report` over a folder that tells its contents
-pub record AsksToReport (old : Outside) (asked : Asked) (job : Job) : Type 0 where
+pub record AsksToReport (old : Outside) (asked : Request) (job : Job) : Type 0 where
   pub view : View
   pub asked_is : asked ≡ Report job view
   pub contents : Files
-  pub told : old.files ≡ Some contents
+  pub contents_are : old.files ≡ Some contents
 
 -- the words ask for `run`, or for that
-abbrev pub AsksToRun : Outside → Asked → Job → Type 0
+abbrev pub AsksToRun : Outside → Request → Job → Type 0
 AsksToRun old asked job = (asked ≡ Run job) ⊎ AsksToReport old asked job
 
-pub record RanSo (IsSo : Guest → List Taken → Type 0) (old : Outside) (job : Job) (status : Status)
+pub record RanSo (IsSo : Program → List RunStep → Type 0) (old : Outside) (job : Job) (status : Status)
     (new : Outside) : Type 0 where
-  pub ran : HasRun old job status new
-  pub so : IsSo ran.run.guest ran.run.trace
+  pub run : HasRun old job status new
+  pub so : IsSo run.run.guest run.run.trace
 
 -- This is so of the job's run, unless the work stopped short.
-abbrev pub OfRuns : (Job → Guest → List Taken → Type 0) → Outside → Asked → Status → Outside → Type 0
+abbrev pub OfRuns : (Job → Program → List RunStep → Type 0) → Outside → Request → Status → Outside → Type 0
 OfRuns IsSo old asked status new =
     (job : Job) → AsksToRun old asked job → is_short status ≡ false → RanSo (IsSo job) old job status new

@@ -11,19 +11,19 @@ use Rattle.guest_mem.specs.Memory.{page_limit}
 use Rattle.guest_load.specs.Arguments.{arguments_len, arguments_limit}
 use Rattle.guest_load.specs.Segments.{pages_of}
 use Rattle.part_dump.specs.Files.{part_name}
-use Rattle.profile_run.specs.Runs.{Ended}
+use Rattle.profile_run.specs.Runs.{RunEnd}
 use Rattle.profile_run.specs.declared.run_fault.RunFault.{RunFault}
 use Rattle.profile_run.specs.declared.run_fault.RunFault.TheVariants as fault
 use Rattle.command_status.specs.Ends.{end_status}
 use Rattle.command_status.specs.declared.status.Status.{Status}
 use Rattle.command_status.specs.declared.status.Status.TheVariants.{Done, Usage, ElfRefused, PutFault, OutFault}
 use Rattle.command_status.specs.declared.status.Status.TheVariants.{GuestFull, ArgsTooLong, OutOfMemory}
-use Rattle.command_words.specs.Asked as words
-use Rattle.command_words.specs.Asked.{Asked, Job}
+use Rattle.command_words.specs.Request as words
+use Rattle.command_words.specs.Request.{Request, Job}
 use Rattle.outside.specs.Limits.{file_limit}
 use Rattle.outside.specs.Load.{bytes_of}
 use Rattle.command_steps.specs.Annotate.{annotating, read_fault}
-use Rattle.profile_cli.specs.Course.{Course, Ran}
+use Rattle.profile_cli.specs.Course.{Course, RunOutcome}
 use Rattle.profile_cli.specs.Demo.{demo_job, figures_of}
 use Rattle.command_steps.specs.Summary.{summing}
 use Rattle.command_steps.specs.Gates.{Gate, Work, check}
@@ -59,12 +59,12 @@ fault_status base (fault.PutFault part thread) = PutFault (part_name base part t
 fault_status base fault.OutFault = OutFault
 fault_status base (fault.OutOfMemory _) = OutOfMemory memory
 
-abbrev pub run_status : List ℕ → Result Ended RunFault → Status
+abbrev pub run_status : List ℕ → Result RunEnd RunFault → Status
 run_status base (Ok ended) = end_status ended.end
 run_status base (Err fault) = fault_status base fault
 
 -- a run that stopped before the guest's end
-abbrev pub run_fault : List ℕ → Result Ended RunFault → Option Status
+abbrev pub run_fault : List ℕ → Result RunEnd RunFault → Option Status
 run_fault base (Ok ended) = None
 run_fault base (Err fault) = Some (fault_status base fault)
 
@@ -89,45 +89,45 @@ loading job met =
     ∷ []
 
 -- the guest runs: its files are put, and its bytes are written
-abbrev pub run_gate : Job → Option Ran → Gate
+abbrev pub run_gate : Job → Option RunOutcome → Gate
 run_gate job None = check (Some (OutOfMemory memory))
 run_gate job (Some ran) = record { stops = run_fault job.base ran.stop; output = ran.output }
 
-abbrev pub last_status : Job → Option Ran → Status
+abbrev pub last_status : Job → Option RunOutcome → Status
 last_status job None = OutOfMemory memory
 last_status job (Some ran) = run_status job.base ran.stop
 
 -- Behind the demonstration's run: where it exited, its parts are read and joined, and the summary of it is written. Any
 -- other end is the status.
-abbrev pub behind_end : ℕ → Course → Ended → End → Work
+abbrev pub behind_end : ℕ → Course → RunEnd → End → Work
 behind_end size met run (end.Exited code) = record {
-  gates = check (read_fault met.read) ∷ summing (figures_of size (length (bytes_of met.program)) code run) met.summed;
+  gates = check (read_fault met.profile) ∷ summing (figures_of size (length (bytes_of met.program)) code run) met.summary;
   last = Done;
 }
 behind_end size met run stop = record { gates = []; last = end_status stop }
 
-abbrev pub behind_stop : ℕ → Course → Result Ended RunFault → Work
+abbrev pub behind_stop : ℕ → Course → Result RunEnd RunFault → Work
 behind_stop size met (Ok run) = behind_end size met run run.end
 behind_stop size met (Err fault) = record { gates = []; last = (OutOfMemory memory) }
 
-abbrev pub behind_demo : ℕ → Course → Option Ran → Work
+abbrev pub behind_demo : ℕ → Course → Option RunOutcome → Work
 behind_demo size met None = record { gates = []; last = (OutOfMemory memory) }
 behind_demo size met (Some ran) = behind_stop size met ran.stop
 
 -- The work of each command. The end of the guest is the last status, and stops nothing: `report` does what `run` does,
 -- and then reports on its own parts.
-abbrev pub work : Asked → Course → Work
+abbrev pub work : Request → Course → Work
 work (words.Run job) met = record {
-  gates = reading met ++ loading job met ++ run_gate job met.ran ∷ watch_gates job.watching job.base met.waited;
-  last = last_status job met.ran;
+  gates = reading met ++ loading job met ++ run_gate job met.run ∷ watch_gates job.watching job.base met.waits;
+  last = last_status job met.run;
 }
 work (words.Report job view) met = record {
-  gates = reading met ++ loading job met ++ run_gate job met.ran ∷ reporting_own met.read met.shown;
-  last = last_status job met.ran;
+  gates = reading met ++ loading job met ++ run_gate job met.run ∷ reporting_own met.profile met.report;
+  last = last_status job met.run;
 }
-work (words.Annotate names view) met = record { gates = reading met ++ annotating view met.read met.shown; last = Done }
+work (words.Annotate names view) met = record { gates = reading met ++ annotating view met.profile met.report; last = Done }
 work (words.Demo size) met = record {
-  gates = reading met ++ run_gate demo_job met.ran ∷ (behind_demo size met met.ran).gates;
-  last = (behind_demo size met met.ran).last;
+  gates = reading met ++ run_gate demo_job met.run ∷ (behind_demo size met met.run).gates;
+  last = (behind_demo size met met.run).last;
 }
 work words.Usage met = record { gates = reading met; last = Usage }

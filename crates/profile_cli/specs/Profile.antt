@@ -2,10 +2,10 @@
 use Rattle.std.specs.Prelude.{◌≤◌, length}
 use Rattle.outside.specs.Outside.{Outside}
 use Rattle.command_status.specs.declared.status.Status.{Status}
-use Rattle.command_words.specs.Asked.{Asked}
+use Rattle.command_words.specs.Request.{Request}
 use Rattle.profile_cli.specs.Addresses.{IsAddresses}
 use Rattle.profile_cli.specs.ByCalls.{IsHeadlineByCalls}
-use Rattle.profile_cli.specs.Calls.{IsTold}
+use Rattle.profile_cli.specs.Calls.{MakesCalls}
 use Rattle.profile_cli.specs.Complete.{IsComplete}
 use Rattle.profile_cli.specs.Contexts.{IsContexts}
 use Rattle.profile_cli.specs.HasRun.{OfRuns}
@@ -15,11 +15,11 @@ use Rattle.profile_cli.specs.OwnRows.{IsOwnRows}
 use Rattle.profile_cli.specs.Reply.{Replies}
 use Rattle.profile_cli.specs.Waits.{IsWaits}
 
-pub record IsReply (old : Outside) (asked : Asked) (status : Status) (new : Outside) : Type 0 where
+pub record IsReply (old : Outside) (asked : Request) (status : Status) (new : Outside) : Type 0 where
   -- what the status means, and what is left: gate after gate
   pub replies : Replies old asked status new
   -- what was called for: call by call
-  pub told : IsTold old asked status new
+  pub told : MakesCalls old asked status new
   -- the report is exact, over a folder that tells its contents, and over one that tells its calls
   pub headline : IsHeadline old asked status new
   pub headline_by_calls : IsHeadlineByCalls old asked status new

@@ -8,8 +8,8 @@ use Rattle.event_costs.specs.declared.numbers.FuncId.{FuncId}
 use Rattle.sym_map.specs.Places.{Identity, IsEntryOf, files_of, functions_of, is_entry, location_at}
 use Rattle.sym_map.specs.SymbolMap.{IsFunc, RiseByBytes, RiseByIdentity, SymbolMap, entry_of, identities, identity_of}
 use Rattle.sym_map.specs.SymbolMap.{is_entry_at, location_of, place_of}
-use Rattle.profile_run.specs.Guest.{Guest, Options}
-use Rattle.command_words.specs.Asked.{Job}
+use Rattle.profile_run.specs.Program.{Program, Options}
+use Rattle.command_words.specs.Request.{Job}
 
 -- the rows of a program's line table, from its sections
 abbrev pub lines_of : Image → List (SequenceOf LineRow)
@@ -43,11 +43,11 @@ options_of job = record {
   quantum = job.quantum;
   seed = job.seed;
   shapes = record { i1 = job.i1; d1 = job.d1; ll = job.ll };
-  asked = record { every = job.every; before = job.before; after = job.after };
+  dump_points = record { every = job.every; before = job.before; after = job.after };
   branch = job.branches;
 }
 
 -- the guest of a job, whose program is this, with this input and this map of its symbols
-abbrev pub guest_of : Job → Image → List ℕ → SymbolMap → Guest
+abbrev pub guest_of : Job → Image → List ℕ → SymbolMap → Program
 guest_of job image input syms =
     record { image = image; syms = syms; args = job.args; input = input; options = options_of job }

@@ -6,25 +6,25 @@ use Rattle.outside.specs.Files.{Rose}
 use Rattle.outside.specs.Outside.{Named, Outside, Output, nothing}
 use Rattle.outside.specs.declared.folder.PutError.{PutError}
 use Rattle.outside.specs.declared.folder.PutError.TheVariants as put
-use Rattle.profile_run.specs.Guest.{Guest, joined}
+use Rattle.profile_run.specs.Program.{Program, joined_texts}
 use Rattle.profile_run.specs.Parts.{Writing, plain_parts}
-use Rattle.profile_run.specs.Runs.{whole}
-use Rattle.profile_run.specs.Trace.{IsTraceOf, Stop, Taken, steps_of}
+use Rattle.profile_run.specs.Runs.{whole_output}
+use Rattle.profile_run.specs.Trace.{IsTraceOf, Stop, RunStep, steps_of}
 use Rattle.wait_report.specs.Rows.{wait_rows}
 use Rattle.wait_report.specs.Texts.{waits_text}
 use Rattle.command_status.specs.declared.status.Status.{Status}
 use Rattle.command_status.specs.declared.status.Status.TheVariants.{OutOfMemory, PutFault}
-use Rattle.command_words.specs.Asked.{Addresses, Contexts, Nothing, Waits, Watching}
+use Rattle.command_words.specs.Request.{Addresses, Contexts, Nothing, Waits, Watching}
 use Rattle.run_laws.specs.Addresses.{addr_parts}
 use Rattle.run_laws.specs.Contexts.{ctx_parts}
-use Rattle.profile_cli.specs.Course.{Waited}
+use Rattle.profile_cli.specs.Course.{WaitsOutcome}
 use Rattle.command_steps.specs.Gates.{Gate, check}
 use Rattle.byte_text.specs.Memory.{memory}
 
 -- ---- the files
 
 -- the parts
-abbrev pub parts_asked : Watching → Guest → Writing
+abbrev pub parts_asked : Watching → Program → Writing
 parts_asked Nothing = plain_parts
 parts_asked Waits = plain_parts
 parts_asked (Contexts callers) = ctx_parts callers
@@ -35,14 +35,14 @@ abbrev pub waits_name : List ℕ → List ℕ
 waits_name base = base ++ codes ".waits"
 
 -- its file, from the guest's trace
-abbrev pub waits_file : Guest → List Taken → Named
+abbrev pub waits_file : Program → List RunStep → Named
 waits_file guest trace = (
   waits_name guest.options.base,
-  waits_text (joined guest.args) guest.options.branch (wait_rows (steps_of trace)),
+  waits_text (joined_texts guest.args) guest.options.branch (wait_rows (steps_of trace)),
 )
 
 -- all files, in the order in which they are put
-abbrev pub files_asked : Watching → Guest → List Taken → Stop → List Named
+abbrev pub files_asked : Watching → Program → List RunStep → Stop → List Named
 files_asked Nothing guest trace stop = (plain_parts guest).whole (steps_of trace) stop.tried
 files_asked Waits guest trace stop =
     (plain_parts guest).whole (steps_of trace) stop.tried ++ waits_file guest trace ∷ []
@@ -50,9 +50,9 @@ files_asked (Contexts callers) guest trace stop = (ctx_parts callers guest).whol
 files_asked Addresses guest trace stop = (addr_parts guest).whole (steps_of trace) stop.tried
 
 -- all that a run puts out
-abbrev pub output_asked : Watching → Guest → List Taken → Stop → Output
+abbrev pub output_asked : Watching → Program → List RunStep → Stop → Output
 output_asked watching guest trace stop =
-    record (whole (parts_asked watching guest) trace stop) { files = files_asked watching guest trace stop }
+    record (whole_output (parts_asked watching guest) trace stop) { files = files_asked watching guest trace stop }
 
 -- ---- the gates behind the run
 
@@ -71,14 +71,14 @@ put_output file (Ok _) = record nothing { files = file ∷ [] }
 put_output file (Err error) = record nothing { refused = Some file.0 }
 
 -- the report on waiting is made and put; where the work didn't come to it, memory was wanting
-abbrev pub waits_gate : List ℕ → Option Waited → Gate
+abbrev pub waits_gate : List ℕ → Option WaitsOutcome → Gate
 waits_gate base None = check (Some (OutOfMemory memory))
 waits_gate base (Some waited) = record {
   stops = put_fault (waits_name base) waited.put;
   output = put_output (waits_name base, waited.text) waited.put;
 }
 
-abbrev pub watch_gates : Watching → List ℕ → Option Waited → List Gate
+abbrev pub watch_gates : Watching → List ℕ → Option WaitsOutcome → List Gate
 watch_gates Nothing base waited = []
 watch_gates Waits base waited = waits_gate base waited ∷ []
 watch_gates (Contexts callers) base waited = []
@@ -93,7 +93,7 @@ IsPut before now (Err put.Failed) = Rose before now
 IsPut before now (Err (put.OutOfMemory _)) = Unit {0}
 
 -- The report on waiting may be put so: its text is that of the guest's trace.
-pub record IsWaited (old : Outside) (guest : Guest) (new : Outside) (waited : Waited) : Type 0 where
-  pub text : (trace : List Taken) (stop : Stop) → IsTraceOf guest trace stop
+pub record IsWaited (old : Outside) (guest : Program) (new : Outside) (waited : WaitsOutcome) : Type 0 where
+  pub text : (trace : List RunStep) (stop : Stop) → IsTraceOf guest trace stop
       → waited.text ≡ (waits_file guest trace).1
   pub put : IsPut old.put_faults new.put_faults waited.put

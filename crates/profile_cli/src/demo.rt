@@ -3,24 +3,24 @@
 ghost use Rattle.std.specs.Prelude.{◌≡◌, ◌≤◌, None, IfOk};
 ghost use Rattle.outside.specs.Outside.{Stream, outside_of, outside_with, stream_of};
 ghost use Rattle.elf_read.specs.Refusal.{refusal};
-ghost use Rattle.command_words.specs.Asked.{Demo};
-ghost use Rattle.command_words.specs.Requests.{job_of};
+ghost use Rattle.command_words.specs.Request.{Demo};
+ghost use Rattle.command_words.specs.Meaning.{job_of};
 ghost use Rattle.profile_cli.specs.Demo.{demo_job, figures_of};
 ghost use Rattle.profile_cli.specs.Reply.{Works};
 ghost use Rattle.profile_cli.specs.Calls as calls;
 ghost use Rattle.profile_cli.specs.Calls.{DoesDemo};
-ghost use Rattle.command_steps.specs.Stages.{Did, met};
+ghost use Rattle.command_steps.specs.Stages.{Did, final_status};
 ghost use Rattle.profile_cli.specs.inner.DemoStages.{DidRunDemo, RunsDemo, SumsUp, code_of};
 ghost use Rattle.profile_cli.specs.inner.RunStages.{DidWork};
 
 use crate::parts::read_parts;
 use crate::program::read_program;
 use crate::run::{Loaded, run_elf};
+use byte_text::OutOfMemory;
 use command_status::Status;
 use command_steps::{Figures, show_summary};
 use command_words::{Job, default_job};
 use demo_make::demo_program;
-use byte_text::OutOfMemory;
 use event_costs::End;
 use outside::{Folder, Sink};
 use part_dump::NoWatch;
@@ -70,7 +70,7 @@ fn run_and_sum<F: Folder, O: Sink, E: Sink>(
     requires most { size ≤ 100000 }
     ensures works { Works
         (outside_of F.Folder O.Sink E.Sink folder.old out.old err.old)
-        (Demo size) (met result)
+        (Demo size) (final_status result)
         (outside_of F.Folder O.Sink E.Sink folder.new out.new err.new) }
     ensures told { Did (DoesDemo size)
         (outside_of F.Folder O.Sink E.Sink folder.old out.old err.old)

@@ -9,10 +9,10 @@ ghost use Rattle.profile_files.specs.Joined.{no_rows};
 ghost use Rattle.command_steps.specs.Stages.{Did, ReadsAll};
 ghost use Rattle.command_steps.specs.ReportStages.{HasEvents, ReadsFiles};
 
+use byte_text::OutOfMemory;
 use cg_read::Profile;
 use command_status::Status;
 use command_steps::read_run_files;
-use byte_text::OutOfMemory;
 use outside::Folder;
 use part_dump::part_name;
 use profile_files::WantedFile;
@@ -29,9 +29,9 @@ struct OwnPart {
 
 impl Model for OwnPart {
     ghost use Rattle.std.specs.Prelude.{string_bytes};
-    ghost use Rattle.profile_files.specs.Wanted.{Wanted};
+    ghost use Rattle.profile_files.specs.WantedFile.{WantedFile as View};
 
-    ghost Value = { Wanted };
+    ghost Value = { View };
 
     ghost view = { λ p. record { name = string_bytes p.name; limit = p.len } };
 }

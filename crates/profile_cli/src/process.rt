@@ -9,8 +9,8 @@ ghost use Rattle.profile_cli.specs.Exit.{ExitsWith};
 ghost use Rattle.profile_cli.specs.inner.ProcessWords.{AreWords};
 
 use crate::work::profile;
-use command_status::Status;
 use byte_text::OutOfMemory;
+use command_status::Status;
 use outside::{Folder, Sink};
 use std::alloc::Global;
 use std::env::Args;

@@ -1,17 +1,17 @@
 //! The program of a job: its file, its symbols and the options of its run.
 
 ghost use Rattle.std.specs.Prelude.{◌≡◌, IfOk, map, option_map, string_bytes};
-ghost use Rattle.command_words.specs.Requests.{job_of};
+ghost use Rattle.command_words.specs.Meaning.{job_of};
 ghost use Rattle.sym_map.specs.SymbolMap.{IsSound};
 ghost use Rattle.profile_cli.specs.Order.{elf_status};
 ghost use Rattle.profile_cli.specs.Program.{IsMapOf, options_of};
 ghost use Rattle.profile_cli.specs.Words.{program_of};
 ghost use Rattle.profile_cli.specs.inner.RunStages.{ReadsProgram};
 
+use byte_text::OutOfMemory;
 use command_status::Status;
 use command_words::Job;
 use elf_read::{Elf, ElfError};
-use byte_text::OutOfMemory;
 use guest_sched::Turns;
 use profile_run::RunOptions;
 use std::alloc::Global;

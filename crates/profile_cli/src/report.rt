@@ -2,13 +2,13 @@
 
 ghost use Rattle.std.specs.Prelude.{◌≤◌};
 ghost use Rattle.outside.specs.Outside.{outside_of};
-ghost use Rattle.command_words.specs.Asked.{Report};
-ghost use Rattle.command_words.specs.Requests.{job_of, view_of};
+ghost use Rattle.command_words.specs.Request.{Report};
+ghost use Rattle.command_words.specs.Meaning.{job_of, view_of};
 ghost use Rattle.command_words.specs.Within.{IsJob, IsSortShown};
 ghost use Rattle.profile_cli.specs.Reply.{Works};
 ghost use Rattle.profile_cli.specs.Calls.{DoesReport};
-ghost use Rattle.command_steps.specs.Stages.{Did, met};
-ghost use Rattle.profile_cli.specs.inner.RunStages.{DidWork, ended};
+ghost use Rattle.command_steps.specs.Stages.{Did, final_status};
+ghost use Rattle.profile_cli.specs.inner.RunStages.{DidWork, end_result};
 
 use crate::parts::read_parts;
 use crate::run::run_parts;
@@ -60,11 +60,11 @@ fn run_and_report<F: Folder, O: Sink, E: Sink>(
     requires sort { IsSortShown (job_of job.now) (view_of view.now) }
     ensures works { Works
         (outside_of F.Folder O.Sink E.Sink folder.old out.old err.old)
-        (Report (job_of job.now) (view_of view.now)) (met (ended result))
+        (Report (job_of job.now) (view_of view.now)) (final_status (end_result result))
         (outside_of F.Folder O.Sink E.Sink folder.new out.new err.new) }
     ensures told { Did (DoesReport (job_of job.now) (view_of view.now))
         (outside_of F.Folder O.Sink E.Sink folder.old out.old err.old)
-        (ended result)
+        (end_result result)
         (outside_of F.Folder O.Sink E.Sink folder.new out.new err.new) }
     ensures never_falls { E.faults err.old ≤ E.faults err.new }
 {

@@ -3,15 +3,15 @@
 ghost use Rattle.std.specs.Prelude.{◌≡◌, ◌≤◌, IfOk, IfSome, None, Some};
 ghost use Rattle.part_dump.specs.Files.{part_name};
 ghost use Rattle.outside.specs.Outside.{outside_of};
-ghost use Rattle.command_words.specs.Asked.{Addresses, Run};
+ghost use Rattle.command_words.specs.Request.{Addresses, Run};
 ghost use Rattle.sym_map.specs.SymbolMap.{SymbolMap};
 ghost use Rattle.run_laws.specs.Addresses.{addr_parts};
 ghost use Rattle.profile_run.specs.Parts.{watched_parts};
-ghost use Rattle.command_words.specs.Requests.{job_of, watching_of};
+ghost use Rattle.command_words.specs.Meaning.{job_of, watching_of};
 ghost use Rattle.command_words.specs.Within.{AreFew, IsJob};
 ghost use Rattle.profile_cli.specs.Reply.{Works};
 ghost use Rattle.run_watches.specs.Watching.{IsFresh};
-ghost use Rattle.profile_cli.specs.inner.RunStages.{DidWork, IsAny, IsTold, RunsElf, RunsJob, WritesAsked};
+ghost use Rattle.profile_cli.specs.inner.RunStages.{DidWork, IsAny, HasWatched, RunsElf, RunsJob, WritesAsked};
 ghost use Rattle.command_steps.specs.Loading.{HasStatus};
 ghost use Rattle.profile_cli.specs.Order.{fault_status};
 ghost use Rattle.profile_cli.specs.Watching.{parts_asked};
@@ -84,7 +84,7 @@ pub fn run_parts<F: Folder, O: Sink, E: Sink>(
     match watch_for(alloc, job.watching) {
         Some(watch) => {
             let mut watch = watch;
-            run_job(alloc, job, &mut watch, folder, out, err)
+            load_and_run(alloc, job, &mut watch, folder, out, err)
         }
         None => run_by_address(alloc, job, folder, out, err),
     }
@@ -107,7 +107,7 @@ fn watch_for(alloc: Global, watching: Watching) -> Option<RunWatch>
 
 /// Loads a program and its input, and runs it to its end, with the parts that the watch answers. Whatever stops this
 /// before the end is a status.
-pub fn run_job<F: Folder, O: Sink, E: Sink, W: Watch>(
+pub fn load_and_run<F: Folder, O: Sink, E: Sink, W: Watch>(
     alloc: Global,
     job: &Job<'_>,
     watch: &mut W,
@@ -117,7 +117,7 @@ pub fn run_job<F: Folder, O: Sink, E: Sink, W: Watch>(
 ) -> Result<RunEnd, Status>
     requires within { IsJob (job_of job.now) }
     requires fresh { (syms : SymbolMap) → W.fresh watch.old syms }
-    ensures ran { RunsJob (watched_parts W.meaning watch.old) (IsTold W.meaning watch.old watch.new)
+    ensures ran { RunsJob (watched_parts W.meaning watch.old) (HasWatched W.meaning watch.old watch.new)
         (outside_of F.Folder O.Sink E.Sink folder.old out.old err.old)
         (job_of job.now) result
         (outside_of F.Folder O.Sink E.Sink folder.new out.new err.new) }
@@ -151,7 +151,7 @@ pub fn run_elf<F: Folder, O: Sink, E: Sink, W: Watch>(
 ) -> Result<RunEnd, Status>
     requires within { IsJob (job_of job.now) }
     requires fresh { (syms : SymbolMap) → W.fresh watch.old syms }
-    ensures ran { RunsElf (watched_parts W.meaning watch.old) (IsTold W.meaning watch.old watch.new)
+    ensures ran { RunsElf (watched_parts W.meaning watch.old) (HasWatched W.meaning watch.old watch.new)
         (job_of job.now) loaded.entry.elf.now loaded.entry.input.items
         (outside_of F.Folder O.Sink E.Sink folder.old out.old err.old)
         result

@@ -2,18 +2,18 @@
 
 ghost use Rattle.std.specs.Prelude.{◌≡◌, ◌≤◌, IfOk, Some, map, string_bytes};
 ghost use Rattle.outside.specs.Outside.{Stream, outside_of, outside_with};
-ghost use Rattle.command_words.specs.Asked.{Run, Waits as asked_waits};
-ghost use Rattle.command_words.specs.Requests.{job_of};
+ghost use Rattle.command_words.specs.Request.{Run, Waits as asked_waits};
+ghost use Rattle.command_words.specs.Meaning.{job_of};
 ghost use Rattle.command_words.specs.Within.{IsJob};
 ghost use Rattle.profile_cli.specs.Reply.{Works};
 ghost use Rattle.profile_cli.specs.Watching.{put_status, waits_name};
 ghost use Rattle.command_steps.specs.Loading.{HasStatus};
 ghost use Rattle.profile_cli.specs.Calls.{DoesRun};
-ghost use Rattle.command_steps.specs.Stages.{Did, met};
-ghost use Rattle.profile_cli.specs.inner.RunStages.{ended};
+ghost use Rattle.command_steps.specs.Stages.{Did, final_status};
+ghost use Rattle.profile_cli.specs.inner.RunStages.{end_result};
 ghost use Rattle.profile_cli.specs.inner.WaitStages.{CanReport, IsTextOf, PutsText, PutsWaits, unwaited};
 
-use crate::run::run_job;
+use crate::run::load_and_run;
 use byte_text::{OutOfMemory, Text};
 use command_status::Status;
 use command_words::Job;
@@ -36,11 +36,11 @@ pub fn run_with_waits<F: Folder, O: Sink, E: Sink>(
     requires waits { (job_of job.now).watching ≡ asked_waits }
     ensures works { Works
         (outside_of F.Folder O.Sink E.Sink folder.old out.old err.old)
-        (Run (job_of job.now)) (met (ended result))
+        (Run (job_of job.now)) (final_status (end_result result))
         (outside_of F.Folder O.Sink E.Sink folder.new out.new err.new) }
     ensures told { Did (DoesRun (job_of job.now))
         (outside_of F.Folder O.Sink E.Sink folder.old out.old err.old)
-        (ended result)
+        (end_result result)
         (outside_of F.Folder O.Sink E.Sink folder.new out.new err.new) }
     ensures never_falls { E.faults err.old ≤ E.faults err.new }
 {
@@ -62,15 +62,15 @@ fn run_and_put<F: Folder, O: Sink, E: Sink>(
     requires fresh { watch.old ≡ unwaited }
     ensures works { Works
         (outside_of F.Folder O.Sink E.Sink folder.old out.old err.old)
-        (Run (job_of job.now)) (met (ended result))
+        (Run (job_of job.now)) (final_status (end_result result))
         (outside_of F.Folder O.Sink E.Sink folder.new out.new err.new) }
     ensures told { Did (DoesRun (job_of job.now))
         (outside_of F.Folder O.Sink E.Sink folder.old out.old err.old)
-        (ended result)
+        (end_result result)
         (outside_of F.Folder O.Sink E.Sink folder.new out.new err.new) }
     ensures never_falls { E.faults err.old ≤ E.faults err.new }
 {
-    let run = run_job(alloc, job, watch, folder, out, err)?;
+    let run = load_and_run(alloc, job, watch, folder, out, err)?;
     let RunWatch::Waits(waits) = &*watch else {
         unreachable!()
     };
@@ -85,10 +85,10 @@ fn put_waits<F: Folder>(
     watch: &Waits,
     folder: &mut F,
 ) -> Result<(), Status>
-    requires { CanReport watch.now.kept }
-    ensures answer { PutsWaits watch.now.kept (job_of job.now) (F.contents folder.old) (F.put_faults folder.old)
+    requires { CanReport watch.now.books }
+    ensures answer { PutsWaits watch.now.books (job_of job.now) (F.contents folder.old) (F.put_faults folder.old)
         (F.put_faults folder.new) result (F.contents folder.new) }
-    ensures told { (out err : Stream) → Did (PutsText watch.now.kept (job_of job.now))
+    ensures told { (out err : Stream) → Did (PutsText watch.now.books (job_of job.now))
         (outside_with F.Folder folder.old out err) result (outside_with F.Folder folder.new out err) }
     ensures same_load_faults { F.load_faults folder.new ≡ F.load_faults folder.old }
     ensures never_falls { F.put_faults folder.old ≤ F.put_faults folder.new }
@@ -103,8 +103,8 @@ fn put_waits<F: Folder>(
 
 /// The text of the report on waiting.
 fn text_of(alloc: Global, job: &Job<'_>, watch: &Waits) -> Result<Text, OutOfMemory>
-    requires { CanReport watch.now.kept }
-    ensures { IfOk result (λ text. IsTextOf watch.now.kept (job_of job.now) text) }
+    requires { CanReport watch.now.books }
+    ensures { IfOk result (λ text. IsTextOf watch.now.books (job_of job.now) text) }
 {
     let rows = watch.rows()?;
     let command = command_line(alloc, &job.args)?;

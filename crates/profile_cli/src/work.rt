@@ -2,7 +2,7 @@
 
 ghost use Rattle.std.specs.Prelude.{◌≤◌, map, string_bytes};
 ghost use Rattle.outside.specs.Outside.{outside_of};
-ghost use Rattle.command_words.specs.Asked.{asked};
+ghost use Rattle.command_words.specs.Request.{read_request};
 ghost use Rattle.profile_cli.specs.Profile.{IsReply};
 ghost use Rattle.profile_cli.specs.Reply.{Works};
 ghost use Rattle.profile_cli.specs.inner.RunStages.{DidWorkOrWants};
@@ -10,10 +10,10 @@ ghost use Rattle.profile_cli.specs.inner.RunStages.{DidWorkOrWants};
 use crate::demo::demo_command;
 use crate::report::report_command;
 use crate::run::run_command;
+use byte_text::OutOfMemory;
 use command_status::Status;
 use command_steps::{annotate_command, say};
 use command_words::{Request, read_words};
-use byte_text::OutOfMemory;
 use outside::{Folder, Sink};
 use std::alloc::Global;
 
@@ -35,7 +35,7 @@ pub fn profile<F: Folder, O: Sink, E: Sink>(
 ) -> Status
     ensures { IsReply
         (outside_of F.Folder O.Sink E.Sink folder.old out.old err.old)
-        (asked (map (λ word. string_bytes word) words.now)) result
+        (read_request (map (λ word. string_bytes word) words.now)) result
         (outside_of F.Folder O.Sink E.Sink folder.new out.new err.new) }
 {
     let found = work(alloc, words, folder, out, err);
@@ -52,11 +52,11 @@ fn work<F: Folder, O: Sink, E: Sink>(
 ) -> Status
     ensures works { Works
         (outside_of F.Folder O.Sink E.Sink folder.old out.old err.old)
-        (asked (map (λ word. string_bytes word) words.now)) result
+        (read_request (map (λ word. string_bytes word) words.now)) result
         (outside_of F.Folder O.Sink E.Sink folder.new out.new err.new) }
     ensures told { DidWorkOrWants
         (outside_of F.Folder O.Sink E.Sink folder.old out.old err.old)
-        (asked (map (λ word. string_bytes word) words.now)) result
+        (read_request (map (λ word. string_bytes word) words.now)) result
         (outside_of F.Folder O.Sink E.Sink folder.new out.new err.new) }
     ensures never_falls { E.faults err.old ≤ E.faults err.new }
 {

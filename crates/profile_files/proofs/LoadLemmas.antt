@@ -4,12 +4,12 @@ use Rattle.std.proofs.Common.{◌≡◌, refl, subst, arith}
 use Rattle.std.specs.declared.alloc.Global.{Global}
 use Rattle.outside.specs.Files.{Files, Rose}
 use Rattle.outside.specs.Load.{Load, LoadAnswers}
-use Rattle.outside.specs.Told.{Call, Loaded, TellsMore}
+use Rattle.outside.specs.Journal.{Call, Loaded, TellsMore}
 use Rattle.outside.specs.declared.folder.LoadError.{LoadError}
 use Rattle.outside.specs.declared.folder.LoadError.TheVariants as load
 use Rattle.profile_files.specs.Loads.{IsLoad}
 use Rattle.profile_files.specs.Reading.{load_fault}
-use Rattle.profile_files.specs.Wanted.{Wanted}
+use Rattle.profile_files.specs.WantedFile.{WantedFile}
 use Rattle.profile_files.specs.declared.fault.ReadFault.{ReadFault}
 use Rattle.profile_files.specs.Calls.{HasFault}
 use Rattle.profile_files.specs.inner.Stages.{Asks, LoadsFile}
@@ -42,13 +42,13 @@ IsLoad-within told name limit before from to now found early late is = record {
 }
 
 -- a file that isn't loaded, under its name and limit
-pub LoadsFile-refused : (told : Option Files) (before now : ℕ) (old new : Option (List Call)) (wanted : Wanted)
+pub LoadsFile-refused : (told : Option Files) (before now : ℕ) (old new : Option (List Call)) (wanted : WantedFile)
     (name : List ℕ) (limit : ℕ) (error : LoadError) (fault : ReadFault)
     → record { name = name; limit = limit } ≡ wanted → LoadAnswers told name limit before now (Err error)
     → TellsMore old (Loaded name limit (Err error) ∷ []) new → HasFault (load_fault name (Err error)) fault
     → LoadsFile (Asks told before now old new wanted) wanted (Err fault)
 LoadsFile-refused told before now old new wanted name limit error fault seen answers asked has =
-    subst (λ (w : Wanted). LoadsFile (Asks told before now old new w) w (Err fault)) seen (
+    subst (λ (w : WantedFile). LoadsFile (Asks told before now old new w) w (Err fault)) seen (
       Err error,
       record { is = record { answer = Err error; answers = answers; is = refl }; calls = asked },
       has,

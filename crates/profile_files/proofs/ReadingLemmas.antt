@@ -7,7 +7,7 @@ use Rattle.std.proofs.lemmas.Bool.{eqb-true}
 use Rattle.std.proofs.lemmas.List.{drop_more}
 use Rattle.std.specs.Result.{IsErrAnd}
 use Rattle.outside.specs.Files.{Files}
-use Rattle.outside.specs.Told.{Call}
+use Rattle.outside.specs.Journal.{Call}
 use Rattle.cg_read.specs.Meaning.{or_else}
 use Rattle.cg_read.specs.Merge.{IsJoined, agree, longer}
 use Rattle.cg_read.specs.Profiles.{Contents}
@@ -15,9 +15,9 @@ use Rattle.cg_read.specs.AddressReading.{ReadsLines}
 use Rattle.profile_files.specs.Joined.{no_rows}
 use Rattle.profile_files.specs.Loads.{AreLoads, IsLoad}
 use Rattle.outside.specs.Load.{Load, bytes_of}
-use Rattle.profile_files.specs.Reading.{Answers, IsReading, events_fault, events_of, file_fault, format_fault, refused}
+use Rattle.profile_files.specs.Reading.{Answers, IsReading, events_fault, events_of, file_fault, format_fault, refusal_of}
 use Rattle.profile_files.specs.Reading.{load_fault, reading_fault}
-use Rattle.profile_files.specs.Wanted.{Wanted}
+use Rattle.profile_files.specs.WantedFile.{WantedFile}
 use Rattle.profile_files.specs.declared.fault.ReadFault.{ReadFault}
 use Rattle.profile_files.specs.declared.fault.ReadFault.TheVariants.{EventsDiffer, OutOfMemory}
 use Rattle.profile_files.proofs.BlankLemmas.{blank_agrees, blank_joined}
@@ -28,7 +28,7 @@ use Rattle.byte_text.specs.Memory.{memory}
 
 -- ---- loads within a longer call
 
-AreLoads-within : (told : Option Files) (before from to now : ℕ) (files : List Wanted) (loads : List Load)
+AreLoads-within : (told : Option Files) (before from to now : ℕ) (files : List WantedFile) (loads : List Load)
     → before ≤ from → to ≤ now → AreLoads told from to files loads → AreLoads told before now files loads
 AreLoads-within told before from to now files [] early late met = tt
 AreLoads-within told before from to now [] (found ∷ loads) early late met = met
@@ -37,7 +37,7 @@ AreLoads-within told before from to now (wanted ∷ files) (found ∷ loads) ear
   AreLoads-within told before from to now files loads early late met.1,
 )
 
-pub IsReading-within : (told : Option Files) (before from to now : ℕ) (first : Contents) (files : List Wanted)
+pub IsReading-within : (told : Option Files) (before from to now : ℕ) (first : Contents) (files : List WantedFile)
     (result : Result Contents ReadFault)
     → before ≤ from → to ≤ now → IsReading told from to first files result
     → IsReading told before now first files result
@@ -55,13 +55,13 @@ events_read bytes read reads = ap (λ names. unwrap_or names []) reads.says.even
 
 no_format_fault : (name : List ℕ) (bytes : List ℕ) (read : Contents) → ReadsLines bytes read
     → format_fault name bytes ≡ None
-no_format_fault name bytes read reads = ap (λ bad. option_map (refused name) bad) reads.sound
+no_format_fault name bytes read reads = ap (λ bad. option_map (refusal_of name) bad) reads.sound
 
 agreeing : (name : List ℕ) (before own : List (List ℕ)) → agree before own ≡ true → events_fault name before own ≡ None
 agreeing name before own same = ap (λ (b : Bool). if b then None else Some (EventsDiffer name)) same
 
 -- A file that reads as a profile and agrees with what was joined before has no fault.
-sound : (wanted : Wanted) (before : List (List ℕ)) (bytes : List ℕ) (read : Contents) → ReadsLines bytes read
+sound : (wanted : WantedFile) (before : List (List ℕ)) (bytes : List ℕ) (read : Contents) → ReadsLines bytes read
     → agree before read.events ≡ true
     → file_fault wanted before (Ok bytes) ≡ None
 sound wanted before bytes read reads same =
@@ -71,7 +71,7 @@ sound wanted before bytes read reads same =
     ∙ agreeing wanted.name before read.events same
 
 -- The reading goes on behind it.
-passes : (wanted : Wanted) (joined read next : Contents) (bytes : List ℕ) (files : List Wanted) (loads : List Load)
+passes : (wanted : WantedFile) (joined read next : Contents) (bytes : List ℕ) (files : List WantedFile) (loads : List Load)
     → ReadsLines bytes read → agree joined.events read.events ≡ true → IsJoined joined read next
     → reading_fault joined.events (wanted ∷ files) (Ok bytes ∷ loads) ≡ reading_fault next.events files loads
 passes wanted joined read next bytes files loads reads same joins =
@@ -81,7 +81,7 @@ passes wanted joined read next bytes files loads reads same joins =
     ∙ ap (λ names. reading_fault names files loads) (sym joins.events)
 
 -- the answer to all files, from the answer to those behind it
-Answers-more : (wanted : Wanted) (joined read next : Contents) (bytes : List ℕ) (files : List Wanted)
+Answers-more : (wanted : WantedFile) (joined read next : Contents) (bytes : List ℕ) (files : List WantedFile)
     (loads : List Load) (result : Result Contents ReadFault)
     → ReadsLines bytes read → agree joined.events read.events ≡ true → IsJoined joined read next
     → Answers next files loads result → Answers joined (wanted ∷ files) (Ok bytes ∷ loads) result
@@ -94,8 +94,8 @@ Answers-more wanted joined read next bytes files loads (Err fault) reads same jo
     answers ∙ ap (λ f. unwrap_or f (OutOfMemory memory))
     (sym (passes wanted joined read next bytes files loads reads same joins))
 
-pub IsReading-more : (told : Option Files) (before now : ℕ) (wanted : Wanted) (joined read next : Contents)
-    (bytes : List ℕ) (files : List Wanted) (result : Result Contents ReadFault)
+pub IsReading-more : (told : Option Files) (before now : ℕ) (wanted : WantedFile) (joined read next : Contents)
+    (bytes : List ℕ) (files : List WantedFile) (result : Result Contents ReadFault)
     → IsLoad told wanted.name wanted.limit before now (Ok bytes) → ReadsLines bytes read
     → agree joined.events read.events ≡ true → IsJoined joined read next
     → IsReading told before now next files result → IsReading told before now joined (wanted ∷ files) result
@@ -108,14 +108,14 @@ IsReading-more told before now wanted joined read next bytes files result is rea
 -- ---- where the reading stops
 
 -- memory was wanting
-pub IsReading-wanting : (told : Option Files) (before now : ℕ) (joined : Contents) (files : List Wanted)
+pub IsReading-wanting : (told : Option Files) (before now : ℕ) (joined : Contents) (files : List WantedFile)
     (fault : ReadFault)
     → fault ≡ (OutOfMemory memory) → IsReading told before now joined files (Err fault)
 IsReading-wanting told before now joined [] fault is = record { loads = []; met = tt; answers = is }
 IsReading-wanting told before now joined (wanted ∷ files) fault is = record { loads = []; met = tt; answers = is }
 
 -- the file has this fault
-stops : (told : Option Files) (before now : ℕ) (wanted : Wanted) (joined : Contents) (files : List Wanted)
+stops : (told : Option Files) (before now : ℕ) (wanted : WantedFile) (joined : Contents) (files : List WantedFile)
     (found : Load) (fault : ReadFault)
     → IsLoad told wanted.name wanted.limit before now found
     → HasFault (file_fault wanted joined.events found) fault
@@ -138,8 +138,8 @@ first_two (Some f) read events fault (inr stop) = inr stop
 first_two None (Some f) events fault (inr stop) = inr stop
 first_two None None events fault (inr stop) = inl (absurd (cc))
 
-pub IsReading-unread : (told : Option Files) (before now : ℕ) (wanted : Wanted) (joined : Contents)
-    (files : List Wanted) (fault : ReadFault)
+pub IsReading-unread : (told : Option Files) (before now : ℕ) (wanted : WantedFile) (joined : Contents)
+    (files : List WantedFile) (fault : ReadFault)
     → ReadsFile (IsLoad told wanted.name wanted.limit before now) wanted (Err fault)
     → IsReading told before now joined (wanted ∷ files) (Err fault)
 IsReading-unread told before now wanted joined files fault reads =
@@ -147,7 +147,7 @@ IsReading-unread told before now wanted joined files fault reads =
     (first_two (load_fault wanted.name reads.0) (format_fault wanted.name (bytes_of reads.0))
     (events_fault wanted.name joined.events (events_of (bytes_of reads.0))) fault reads.2)
 
-pub unjoined_fault : (wanted : Wanted) (before : List (List ℕ)) (bytes : List ℕ) (read : Contents) (fault : ReadFault)
+pub unjoined_fault : (wanted : WantedFile) (before : List (List ℕ)) (bytes : List ℕ) (read : Contents) (fault : ReadFault)
     → ReadsLines bytes read
     → HasFault (events_fault wanted.name before read.events) fault
     → HasFault (file_fault wanted before (Ok bytes)) fault
@@ -158,8 +158,8 @@ unjoined_fault wanted before bytes read fault reads (inr stop) =
     ∙ ap (λ names. events_fault wanted.name before names) (events_read bytes read reads)
     ∙ stop)
 
-pub IsReading-unjoined : (told : Option Files) (before now : ℕ) (wanted : Wanted) (joined read : Contents)
-    (bytes : List ℕ) (files : List Wanted) (fault : ReadFault)
+pub IsReading-unjoined : (told : Option Files) (before now : ℕ) (wanted : WantedFile) (joined read : Contents)
+    (bytes : List ℕ) (files : List WantedFile) (fault : ReadFault)
     → IsLoad told wanted.name wanted.limit before now (Ok bytes) → ReadsLines bytes read
     → HasFault (events_fault wanted.name joined.events read.events) fault
     → IsReading told before now joined (wanted ∷ files) (Err fault)
@@ -170,16 +170,16 @@ IsReading-unjoined told before now wanted joined read bytes files fault is reads
 -- ---- the loop over the files
 
 -- What the files so far came to: an answer to the files that are left is one to all.
-pub record Stands (told : Option Files) (before now : ℕ) (first : Contents) (files : List Wanted) (joined : Contents)
-    (left : List Wanted) : Type 0 where
+pub record Stands (told : Option Files) (before now : ℕ) (first : Contents) (files : List WantedFile) (joined : Contents)
+    (left : List WantedFile) : Type 0 where
   pub early : before ≤ now
   pub goes : (later : ℕ) (result : Result Contents ReadFault) → now ≤ later
       → IsReading told before later joined left result
       → IsReading told before later first files result
 
 -- one more file is read and joined
-pub Stands-more : (told seen : Option Files) (before from to : ℕ) (first : Contents) (files : List Wanted)
-    (joined read next : Contents) (left : List Wanted) (wanted : Wanted) (rest : List Wanted) (old new : Option (List Call))
+pub Stands-more : (told seen : Option Files) (before from to : ℕ) (first : Contents) (files : List WantedFile)
+    (joined read next : Contents) (left : List WantedFile) (wanted : WantedFile) (rest : List WantedFile) (old new : Option (List Call))
     → Stands told before from first files joined left → seen ≡ told → left ≡ wanted ∷ rest → from ≤ to
     → ReadsFile (Asks seen from to old new wanted) wanted (Ok read) → agree joined.events read.events ≡ true → IsJoined joined read next
     → Stands told before to first files next rest
@@ -197,8 +197,8 @@ Stands-more told seen before from to first files joined read next left wanted re
     }
 
 -- a file isn't read
-pub Stands-unread : (told seen : Option Files) (before from to : ℕ) (first : Contents) (files : List Wanted)
-    (joined : Contents) (left : List Wanted) (wanted : Wanted) (rest : List Wanted) (fault : ReadFault)
+pub Stands-unread : (told seen : Option Files) (before from to : ℕ) (first : Contents) (files : List WantedFile)
+    (joined : Contents) (left : List WantedFile) (wanted : WantedFile) (rest : List WantedFile) (fault : ReadFault)
     (old new : Option (List Call))
     → Stands told before from first files joined left → seen ≡ told → left ≡ wanted ∷ rest → from ≤ to
     → ReadsFile (Asks seen from to old new wanted) wanted (Err fault) → IsReading told before to first files (Err fault)
@@ -213,8 +213,8 @@ Stands-unread told seen before from to first files joined left wanted rest fault
     )))
 
 -- a file isn't joined
-pub Stands-unjoined : (told seen : Option Files) (before from to : ℕ) (first : Contents) (files : List Wanted)
-    (joined read : Contents) (left : List Wanted) (wanted : Wanted) (rest : List Wanted) (fault : ReadFault)
+pub Stands-unjoined : (told seen : Option Files) (before from to : ℕ) (first : Contents) (files : List WantedFile)
+    (joined read : Contents) (left : List WantedFile) (wanted : WantedFile) (rest : List WantedFile) (fault : ReadFault)
     (old new : Option (List Call))
     → Stands told before from first files joined left → seen ≡ told → left ≡ wanted ∷ rest → from ≤ to
     → ReadsFile (Asks seen from to old new wanted) wanted (Ok read) → HasFault (events_fault wanted.name joined.events read.events) fault
@@ -227,7 +227,7 @@ Stands-unjoined told seen before from to first files joined read left wanted res
     (subst (λ t. IsLoad t wanted.name wanted.limit from to (Ok reads.0)) same reads.1.is)) reads.2 has))
 
 -- an answer that is this fault
-pub IsReading-exit : (told : Option Files) (before now : ℕ) (first : Contents) (files : List Wanted)
+pub IsReading-exit : (told : Option Files) (before now : ℕ) (first : Contents) (files : List WantedFile)
     (fault : ReadFault) (result : Result Contents ReadFault)
     → IsErrAnd result (λ f. f ≡ fault) → IsReading told before now first files (Err fault)
     → IsReading told before now first files result
@@ -236,7 +236,7 @@ IsReading-exit told before now first files fault (Err other) is reading =
     subst (λ f. IsReading told before now first files (Err f)) (sym is) reading
 
 -- the files that are left, from an element of the list on
-pub files_left : (files : List Wanted) (i : ℕ) (wanted : Wanted) → i < length files
+pub files_left : (files : List WantedFile) (i : ℕ) (wanted : WantedFile) → i < length files
     → wanted ≡ get_or files i wanted
     → drop i files ≡ wanted ∷ drop (i + 1) files
 files_left files i wanted within is =
@@ -250,8 +250,8 @@ no_names (name ∷ names) none =
     let is : length (name ∷ names) ≡ 0 = eqb-true (length (name ∷ names)) 0 (sym none) in absurd (omega arith)
 
 -- Where there are no events before it, what the first file reads as is what is joined.
-pub first_read : (told seen : Option Files) (before from now : ℕ) (names : List (List ℕ)) (files : List Wanted)
-    (wanted : Wanted) (rest : List Wanted) (read : Contents) (result : Result Contents ReadFault)
+pub first_read : (told seen : Option Files) (before from now : ℕ) (names : List (List ℕ)) (files : List WantedFile)
+    (wanted : WantedFile) (rest : List WantedFile) (read : Contents) (result : Result Contents ReadFault)
     (old new : Option (List Call))
     → names ≡ [] → files ≡ wanted ∷ rest → seen ≡ told → before ≤ from → from ≤ now
     → ReadsFile (Asks told before from old new wanted) wanted (Ok read) → IsReading seen from now read rest result
@@ -266,8 +266,8 @@ first_read told seen before from now names files wanted rest read result old new
     (subst (λ t. IsReading t from now read rest result) same reading))))
 
 -- It isn't read.
-pub first_unread : (told : Option Files) (before now : ℕ) (first : Contents) (files : List Wanted) (wanted : Wanted)
-    (rest : List Wanted) (fault : ReadFault) (old new : Option (List Call))
+pub first_unread : (told : Option Files) (before now : ℕ) (first : Contents) (files : List WantedFile) (wanted : WantedFile)
+    (rest : List WantedFile) (fault : ReadFault) (old new : Option (List Call))
     → files ≡ wanted ∷ rest → ReadsFile (Asks told before now old new wanted) wanted (Err fault)
     → IsReading told before now first files (Err fault)
 first_unread told before now first files wanted rest fault old new is reads =

@@ -2,5 +2,5 @@ pub mod Calls
 pub mod Joined
 pub mod Loads
 pub mod Reading
-pub mod Wanted
+pub mod WantedFile
 pub mod inner

@@ -4,7 +4,7 @@ ghost use Rattle.std.specs.Prelude.{◌≡◌, ◌≤◌, ◌⊎◌, length, map
 ghost use Rattle.cg_read.specs.Profiles.{AreApart, most_events};
 ghost use Rattle.profile_files.specs.Calls.{HasFault, TellsReading};
 ghost use Rattle.profile_files.specs.Joined.{no_rows};
-ghost use Rattle.profile_files.specs.Reading.{IsComplete, IsReading, load_fault, refused};
+ghost use Rattle.profile_files.specs.Reading.{IsComplete, IsReading, load_fault, refusal_of};
 ghost use Rattle.profile_files.specs.inner.Stages.{Asks, JoinsFile, LoadsFile, ReadsFile};
 ghost use Rattle.byte_text.specs.Memory.{memory};
 
@@ -165,7 +165,7 @@ fn load_fault(alloc: Global, name: &str, error: LoadError) -> ReadFault
 
 /// Why bytes under this name, which are refused so, stop the reading.
 fn format_fault(alloc: Global, name: &str, error: FormatError) -> ReadFault
-    ensures { (result ≡ ReadFault.OutOfMemory memory) ⊎ (result ≡ refused name.now error) }
+    ensures { (result ≡ ReadFault.OutOfMemory memory) ⊎ (result ≡ refusal_of name.now error) }
 {
     let name = match Text::from_bytes(alloc, name.as_bytes()) {
         Ok(name) => name,

@@ -1,7 +1,7 @@
 //! The files that are to be read.
 
 ghost use Rattle.std.specs.Prelude.{◌≡◌, IfOk, map, string_bytes};
-ghost use Rattle.profile_files.specs.Wanted.{with_limit};
+ghost use Rattle.profile_files.specs.WantedFile.{with_limit};
 
 use byte_text::OutOfMemory;
 use std::alloc::Global;
@@ -16,9 +16,9 @@ pub struct WantedFile<'a> {
 }
 
 impl<'a> Model for WantedFile<'a> {
-    ghost use Rattle.profile_files.specs.Wanted.{Wanted};
+    ghost use Rattle.profile_files.specs.WantedFile.{WantedFile as View};
 
-    ghost Value = { Wanted };
+    ghost Value = { View };
 
     ghost view = { λ w. record { name = w.name.now; limit = w.limit } };
 }

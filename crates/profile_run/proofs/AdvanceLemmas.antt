@@ -10,16 +10,16 @@ use Rattle.event_costs.specs.declared.numbers.ThreadNo.{ThreadNo}
 use Rattle.event_costs.specs.declared.outcome.End.{End}
 use Rattle.event_costs.specs.declared.outcome.Noted.{Noted}
 use Rattle.sym_map.specs.SymbolMap.{SymbolMap}
-use Rattle.guest_sched.specs.Seen.{Seen, ended, next, over, running, told, with_given}
-use Rattle.guest_sched.specs.Whole.{first_of}
+use Rattle.guest_sched.specs.Machine.{Machine, ended, next, known_end, running, machine_step, with_given}
+use Rattle.guest_sched.specs.Engine.{first_of}
 use Rattle.recorder.specs.Accounts.{Recording, account}
 use Rattle.recorder.specs.Accounts as books
 use Rattle.part_dump.specs.Steps.{live}
 use Rattle.part_dump.specs.Watching.{Meaning}
 use Rattle.shadow_stack.specs.Stacks.{most_frames}
-use Rattle.profile_run.specs.Guest.{Guest, Options}
-use Rattle.profile_run.specs.Trace.{Stop, Taken, bytes_to, end_before, exited, full, nobody_ready}
-use Rattle.profile_run.specs.Trace.{or_else, piece_to, pieces, sent, spent, steps_of, taken, tried_at}
+use Rattle.profile_run.specs.Program.{Program, Options}
+use Rattle.profile_run.specs.Trace.{Stop, RunStep, bytes_to, end_before, exit_end, frames_end, waiting_end}
+use Rattle.profile_run.specs.Trace.{or_else, piece_to, pieces, sent_bytes, budget_end, steps_of, run_step, tried_at}
 use Rattle.profile_run.specs.inner.Standing.{Advances, Begins, CanCount, CanCut, Ending, Fails, Grows, HasBegun, HasPut}
 use Rattle.profile_run.specs.inner.Standing.{HasWritten, SendsAll}
 use Rattle.profile_run.specs.inner.Standing.{HasSent, IsCounted, IsCutAt, IsJob, IsMade, IsOver, IsStarted, IsWritten}
@@ -41,26 +41,26 @@ use Rattle.byte_text.specs.Memory.{memory}
 
 -- no end stands before the step
 open_over : (exit : Option ℕ) (ready : List ThreadNo) (a b : Option End)
-    → or_else (exited exit) (or_else a (or_else b (nobody_ready ready))) ≡ None → over exit (first_of ready) ≡ None
+    → or_else (exit_end exit) (or_else a (or_else b (waiting_end ready))) ≡ None → known_end exit (first_of ready) ≡ None
 open_over exit ready a b none =
-    let one = or_none (exited exit) (or_else a (or_else b (nobody_ready ready))) none in
-    let two = or_none a (or_else b (nobody_ready ready)) one.1 in
-    let three = or_none b (nobody_ready ready) two.1 in
+    let one = or_none (exit_end exit) (or_else a (or_else b (waiting_end ready))) none in
+    let two = or_none a (or_else b (waiting_end ready)) one.1 in
+    let three = or_none b (waiting_end ready) two.1 in
     by exit ready one.0 three.1
   where
-    by : (o : Option ℕ) (ts : List ThreadNo) → exited o ≡ None → nobody_ready ts ≡ None → over o (first_of ts) ≡ None
+    by : (o : Option ℕ) (ts : List ThreadNo) → exit_end o ≡ None → waiting_end ts ≡ None → known_end o (first_of ts) ≡ None
     by (Some code) ts e f = absurd (cc)
     by None [] e f = absurd (cc)
     by None (t ∷ ts) e f = refl
 
 -- few frames are live
-few_frames : (guest : Guest) (m : Seen) (past : List Taken) → end_before guest m past ≡ None
+few_frames : (guest : Program) (m : Machine) (past : List RunStep) → end_before guest m past ≡ None
     → live guest.syms (steps_of past) < most_frames
 few_frames guest m past none =
-    let one = or_none (exited m.whole.exit) _ none in
-    let two = or_none (spent guest.options.budget (length past)) _ one.1 in
+    let one = or_none (exit_end m.engine.exit) _ none in
+    let two = or_none (budget_end guest.options.budget (length past)) _ one.1 in
     some_room (live guest.syms (steps_of past))
-    (or_none (full (live guest.syms (steps_of past))) (nobody_ready m.whole.line.ready) two.1).0
+    (or_none (frames_end (live guest.syms (steps_of past))) (waiting_end m.engine.run_queue.ready) two.1).0
 
 -- what an answer that isn't an error promises
 pub on_unless : {A E : Type 0} (P : Type 0) (r : Result A E) → ((e : E) → r ≡ Err e → ⊥) → OnOk r P → P
@@ -103,28 +103,28 @@ advances_as m job a b same r counting parts w now is = subst (λ n. Advances m j
 module _ {W : Type 0} (m : Meaning W) {fresh : W → SymbolMap → Type 0} {job : Job W} {order : Order}
     (is : IsJob fresh job order) {old : Counting} {parts : Parts} {w : W} {now : Outside}
     (s : Standing m job old parts w now) where
-  abbrev guest : Guest
+  abbrev guest : Program
   guest = job.guest
 
   -- the code looks for the end that stands
   pub looked : (budget : ℕ) → budget ≡ order.options.now.budget → (e : Option End)
-      → (old.machine.given ≡ None → e ≡ or_else (exited old.machine.whole.exit)
-      (or_else (spent budget old.machine.whole.sys.guest.steps)
-      (or_else (full (books.live old.recorder)) (nobody_ready old.machine.whole.line.ready))))
+      → (old.machine.given ≡ None → e ≡ or_else (exit_end old.machine.engine.exit)
+      (or_else (budget_end budget old.machine.engine.kernel.guest.steps)
+      (or_else (frames_end (books.live old.recorder)) (waiting_end old.machine.engine.run_queue.ready))))
       → end_before guest old.machine s.past ≡ e
   looked budget same e found =
       sym (found s.after.after.given
-      ∙ ap (λ n. or_else (exited old.machine.whole.exit)
-      (or_else (spent n old.machine.whole.sys.guest.steps)
-      (or_else (full (books.live old.recorder)) (nobody_ready old.machine.whole.line.ready))))
+      ∙ ap (λ n. or_else (exit_end old.machine.engine.exit)
+      (or_else (budget_end n old.machine.engine.kernel.guest.steps)
+      (or_else (frames_end (books.live old.recorder)) (waiting_end old.machine.engine.run_queue.ready))))
       (same ∙ ap (λ (o : Options). o.budget) (sym is.options))
-      ∙ ap (λ n. or_else (exited old.machine.whole.exit)
-      (or_else (spent guest.options.budget n)
-      (or_else (full (books.live old.recorder)) (nobody_ready old.machine.whole.line.ready))))
+      ∙ ap (λ n. or_else (exit_end old.machine.engine.exit)
+      (or_else (budget_end guest.options.budget n)
+      (or_else (frames_end (books.live old.recorder)) (waiting_end old.machine.engine.run_queue.ready))))
       (steps_are guest s.past old.machine s.after.after.reached)
-      ∙ ap (λ n. or_else (exited old.machine.whole.exit)
-      (or_else (spent guest.options.budget (length s.past))
-      (or_else (full n) (nobody_ready old.machine.whole.line.ready)))) s.after.after.live)
+      ∙ ap (λ n. or_else (exit_end old.machine.engine.exit)
+      (or_else (budget_end guest.options.budget (length s.past))
+      (or_else (frames_end n) (waiting_end old.machine.engine.run_queue.ready)))) s.after.after.live)
 
   -- an end stands before the step
   pub ends_before : (end : End) → end_before guest old.machine s.past ≡ Some end → Ending m job end old parts w now
@@ -141,16 +141,16 @@ module _ {W : Type 0} (m : Meaning W) {fresh : W → SymbolMap → Type 0} {job 
 
   -- whether an end stands, as the code tests it
   module _ (budget : ℕ) (same : budget ≡ order.options.now.budget) (b : Bool)
-      (over_is : old.machine.given ≡ None → b ≡ is_some (or_else (exited old.machine.whole.exit)
-      (or_else (spent budget old.machine.whole.sys.guest.steps)
-      (or_else (full (books.live old.recorder)) (nobody_ready old.machine.whole.line.ready))))) where
+      (over_is : old.machine.given ≡ None → b ≡ is_some (or_else (exit_end old.machine.engine.exit)
+      (or_else (budget_end budget old.machine.engine.kernel.guest.steps)
+      (or_else (frames_end (books.live old.recorder)) (waiting_end old.machine.engine.run_queue.ready))))) where
     pub not_ended : b ≡ false → end_before guest old.machine s.past ≡ None
     not_ended no_ = looked budget same None (λ given. sym (none_of _ (sym (over_is given) ∙ no_)))
 
     pub ends_at : b ≡ true → (e : Option End)
-        → (old.machine.given ≡ None → e ≡ or_else (exited old.machine.whole.exit)
-        (or_else (spent budget old.machine.whole.sys.guest.steps)
-        (or_else (full (books.live old.recorder)) (nobody_ready old.machine.whole.line.ready))))
+        → (old.machine.given ≡ None → e ≡ or_else (exit_end old.machine.engine.exit)
+        (or_else (budget_end budget old.machine.engine.kernel.guest.steps)
+        (or_else (frames_end (books.live old.recorder)) (waiting_end old.machine.engine.run_queue.ready))))
         → (steps : ℕ) → Advances m job steps (Ok e) old parts w now
     ends_at yes_ e found steps =
         by e (looked budget same e found)
@@ -171,8 +171,8 @@ module _ {W : Type 0} (m : Meaning W) {fresh : W → SymbolMap → Type 0} {job 
   pub runs_on : end_before guest old.machine s.past ≡ None → ended old.machine ≡ None
   runs_on none =
       ended_is old.machine s.after.after.given
-      ∙ open_over old.machine.whole.exit old.machine.whole.line.ready (spent guest.options.budget (length s.past))
-      (full (live guest.syms (steps_of s.past))) none
+      ∙ open_over old.machine.engine.exit old.machine.engine.run_queue.ready (budget_end guest.options.budget (length s.past))
+      (frames_end (live guest.syms (steps_of s.past))) none
 
   -- no stack is deeper than may be
   pub shallow_for : end_before guest old.machine s.past ≡ None
@@ -215,7 +215,7 @@ module _ {W : Type 0} (m : Meaning W) {fresh : W → SymbolMap → Type 0} {job 
 
   module _ {old : Counting} {parts : Parts} {w : W} {now : Outside} (s : IsStarted m job old parts w now) where
     -- a run that isn't over has room for a step more
-    pub few_steps : old.machine.whole.sys.guest.steps < 2 ^ 64 - 1
+    pub few_steps : old.machine.engine.kernel.guest.steps < 2 ^ 64 - 1
     few_steps =
         let are = steps_are job.guest s.past old.machine s.begun.after.reached in
         let few = s.begun.after.few in
@@ -238,7 +238,7 @@ module _ {W : Type 0} (m : Meaning W) {fresh : W → SymbolMap → Type 0} {job 
         → c.recorder ≡ old.recorder → Ending m job end c parts w now
     ends_tried end c stops given same =
         let stop : Stop = record { end = end; tried = tried_at end (running old.machine) } in
-        let over =
+        let known_end =
         over_tried m job.guest job.first s.past old.machine old.costs old.recorder parts.head w s.begun end stops s.head
         s.number in
         record {
@@ -248,20 +248,20 @@ module _ {W : Type 0} (m : Meaning W) {fresh : W → SymbolMap → Type 0} {job 
           over =
               subst (λ mc. IsOver m job.guest job.first s.past stop mc c.recorder parts.head w) (sym given)
               (subst (λ r. IsOver m job.guest job.first s.past stop (with_given end old.machine) r parts.head w)
-              (sym same) over);
+              (sym same) known_end);
           put = s.put;
           sent = s.sent;
           grows = s.grows;
         }
 
     -- the step was made
-    module _ {event : Event} {output : Option (ℕ × List ℕ)} {after : Seen}
-        (makes : next old.machine ≡ Ok (told event output after, after)) where
+    module _ {event : Event} {output : Option (ℕ × List ℕ)} {after : Machine}
+        (makes : next old.machine ≡ Ok (machine_step event output after, after)) where
       abbrev pub is_made : IsMade m job.guest job.first s.past event after old.costs old.recorder w
       is_made = record {
         before = old.machine;
         begun = s.begun;
-        told = told event output after;
+        told = machine_step event output after;
         makes = makes;
         wait = refl;
         woken = refl;
@@ -279,13 +279,13 @@ module _ {W : Type 0} (m : Meaning W) {fresh : W → SymbolMap → Type 0} {job 
         made = is_made;
       }
 
-      abbrev pub last : Taken
-      last = taken job.guest s.past (told event output after)
+      abbrev pub last : RunStep
+      last = run_step job.guest s.past (machine_step event output after)
 
       -- it was counted
       module _ (c : Counting) (v : W) (noted : Noted)
           (counted : IsCounted m job.guest job.first s.past last order.rule.after noted c.machine c.costs c.recorder v) where
-        pub counts_on : c.machine.whole.sys.guest.steps ≡ old.machine.whole.sys.guest.steps + 1
+        pub counts_on : c.machine.engine.kernel.guest.steps ≡ old.machine.engine.kernel.guest.steps + 1
         counts_on =
             let before = steps_are job.guest s.past old.machine s.begun.after.reached in
             let now_are = steps_are job.guest (s.past ++ last ∷ []) c.machine counted.after.reached in
@@ -331,11 +331,11 @@ module _ {W : Type 0} (m : Meaning W) {fresh : W → SymbolMap → Type 0} {job 
           sent = record {
             out =
                 sends.out ∙ ap (λ t. taken_more t (bytes_to 1 output)) s.sent.out
-                ∙ more_taken job.old.out.taken (sent 1 s.past) (bytes_to 1 output)
+                ∙ more_taken job.old.out.taken (sent_bytes 1 s.past) (bytes_to 1 output)
                 ∙ ap (taken_more job.old.out.taken) (sym (sent-push 1 s.past last));
             err =
                 sends.err ∙ ap (λ t. taken_more t (bytes_to 2 output)) s.sent.err
-                ∙ more_taken job.old.err.taken (sent 2 s.past) (bytes_to 2 output)
+                ∙ more_taken job.old.err.taken (sent_bytes 2 s.past) (bytes_to 2 output)
                 ∙ ap (taken_more job.old.err.taken) (sym (sent-push 2 s.past last));
             out_told =
                 subst (λ ps. HasWritten ps job.old.out new.out) (sym (pieces-push 1 s.past last))
@@ -359,7 +359,7 @@ module _ {W : Type 0} (m : Meaning W) {fresh : W → SymbolMap → Type 0} {job 
         subst (λ (o : Options). HasPut o.base (files_at m job.guest job.first (steps_of s.past)) (shelf job.old)
         (shelf now) parts.put.items) is.options s.put
 
-    abbrev past : List Taken
+    abbrev past : List RunStep
     past = s.past ++ s.last ∷ []
 
     module _ (new : Outside) (out : new.out ≡ now.out) (err : new.err ≡ now.err) (grows : Grows now new) where

@@ -14,23 +14,23 @@ use Rattle.event_costs.specs.declared.outcome.End.TheVariants.{Budget, Frames}
 use Rattle.shadow_stack.specs.Stacks.{most_frames}
 use Rattle.shadow_stack.specs.Frames.{stack}
 use Rattle.shadow_stack.specs.Traces.{stack_of}
-use Rattle.cache_lru.specs.Costs.{KeptForRun}
-use Rattle.guest_sched.specs.Seen.{Seen}
-use Rattle.recorder.specs.Accounts.{Account, IsReady, Kept, Recording, account, kept, knows}
+use Rattle.cache_lru.specs.Costs.{RunCosts}
+use Rattle.guest_sched.specs.Machine.{Machine}
+use Rattle.recorder.specs.Accounts.{Account, IsReady, Ledger, Recording, account, ledger, knows}
 use Rattle.recorder.specs.Accounts as books
 use Rattle.recorder.specs.Bounds.{SumsWithin}
-use Rattle.recorder.specs.Notes.{started}
+use Rattle.recorder.specs.Notes.{first_account}
 use Rattle.recorder.specs.Standing.{Stands}
 use Rattle.recorder.proofs.BoundLemmas.{within_started}
 use Rattle.recorder.proofs.StandingLemmas.{stands_started}
 use Rattle.part_dump.specs.Calls.{Call, Readies}
 use Rattle.part_dump.specs.Cuts.{cuts}
-use Rattle.part_dump.specs.Steps.{Step, event_of, live, own, own_seen, stack_at}
-use Rattle.part_dump.specs.Watched.{Fits, readied, steps_in}
+use Rattle.part_dump.specs.Steps.{Step, event_of, live, steps_of_thread, events_on_stack_of, stack_at}
+use Rattle.part_dump.specs.Watched.{Fits, ready_pc, steps_in}
 use Rattle.part_dump.specs.Watching.{Meaning, after_call}
-use Rattle.profile_run.specs.Guest.{Guest}
+use Rattle.profile_run.specs.Program.{Program}
 use Rattle.profile_run.specs.Parts.{calls_so_far}
-use Rattle.profile_run.specs.Trace.{Taken, end_before, exited, full, nobody_ready, or_else, spent}
+use Rattle.profile_run.specs.Trace.{RunStep, end_before, exit_end, frames_end, waiting_end, or_else, budget_end}
 use Rattle.profile_run.specs.Trace.{steps_of}
 use Rattle.profile_run.specs.inner.Standing.{AreAccounts, Begins, HasAccount, HasBegun, HaveStepped, IsAfter, IsWatched}
 use Rattle.profile_run.specs.inner.Standing.{Prepares}
@@ -52,7 +52,7 @@ not_spent : (b : Bool) (end : End) → ◌≡◌ {A = Option End} (if b then Som
 not_spent true end e = absurd (cc)
 not_spent false end e = refl
 
-pub spare : (budget steps : ℕ) → spent budget steps ≡ None → steps ≤ budget → steps < budget
+pub spare : (budget steps : ℕ) → budget_end budget steps ≡ None → steps ≤ budget → steps < budget
 spare budget steps none few =
     let differs = not_spent (steps == budget) (Budget budget) none in
     elim (eqb_tells steps budget) as (λ _. steps < budget) [
@@ -63,16 +63,16 @@ spare budget steps none few =
     less : (m n : ℕ) → m ≢ n → m ≤ n → m < n
     less m n other le = omega (arith, other, le)
 
-pub some_room : (frames : ℕ) → full frames ≡ None → frames < most_frames
+pub some_room : (frames : ℕ) → frames_end frames ≡ None → frames < most_frames
 some_room frames none =
     let small = not_spent (nat_le most_frames frames) Frames none in grind (arith, nat_tests)
 
 -- ---- a thread is prepared
 
-live_started : (syms : SymbolMap) (t : ThreadNo) (pc : ℕ) (r mid : Recording) (k : Kept)
-    → k.account ≡ started syms t pc → mid.threads ≡ r.threads ++ k ∷ [] → books.live mid ≡ books.live r
+live_started : (syms : SymbolMap) (t : ThreadNo) (pc : ℕ) (r mid : Recording) (k : Ledger)
+    → k.account ≡ first_account syms t pc → mid.threads ≡ r.threads ++ k ∷ [] → books.live mid ≡ books.live r
 live_started syms t pc r mid k is all =
-    let f : Kept → ℕ = λ j. books.live_in j.account.frames in
+    let f : Ledger → ℕ = λ j. books.live_in j.account.frames in
     let sums = ap (sum_by f) all in
     let both = sum_by-append f r.threads (k ∷ []) in
     let one = sum_by-cons f k [] in
@@ -82,10 +82,10 @@ live_started syms t pc r mid k is all =
 same_number : (m n : ℕ) → (m == n) ≡ true → m ≡ n
 same_number m n e = grind (arith, nat_tests)
 
-module _ (syms : SymbolMap) (t : ThreadNo) (pc : ℕ) (r mid s : Recording) (unknown : knows r t ≡ false) (k : Kept)
-    (is : k.account ≡ started syms t pc) (all : mid.threads ≡ r.threads ++ k ∷ [])
-    (own_is : account mid t ≡ started syms t pc)
-    (others : (o : ThreadNo) → o.0 ≢ t.0 → kept mid o ≡ kept r o)
+module _ (syms : SymbolMap) (t : ThreadNo) (pc : ℕ) (r mid s : Recording) (unknown : knows r t ≡ false) (k : Ledger)
+    (is : k.account ≡ first_account syms t pc) (all : mid.threads ≡ r.threads ++ k ∷ [])
+    (own_is : account mid t ≡ first_account syms t pc)
+    (others : (o : ThreadNo) → o.0 ≢ t.0 → ledger mid o ≡ ledger r o)
     (known : (o : ThreadNo) → knows mid o ≡ (knows r o || o.0 == t.0))
     (accounts : (o : ThreadNo) → account s o ≡ account mid o)
     (known_still : (o : ThreadNo) → knows s o ≡ knows mid o)
@@ -106,20 +106,20 @@ module _ (syms : SymbolMap) (t : ThreadNo) (pc : ℕ) (r mid s : Recording) (unk
     still_known = λ o before. known_still o ∙ known o ∙ or_left (knows r o) (o.0 == t.0) before;
     own_known =
         known_still t ∙ known t ∙ ap (λ b. b || t.0 == t.0) unknown ∙ eq-eqb t.0 t.0 refl;
-    others = λ o before. accounts o ∙ ap (λ (j : Kept). j.account) (others o (was_other o before));
+    others = λ o before. accounts o ∙ ap (λ (j : Ledger). j.account) (others o (was_other o before));
     started = λ _. accounts t ∙ own_is;
     live = live_still ∙ live_started syms t pc r mid k is all;
   }
 
 -- ---- the accounts once a thread is prepared
 
-module _ {W : Type 0} (m : Meaning W) (guest : Guest) (first : W) (past : List Taken) (machine : Seen)
-    (costs : KeptForRun) (r s : Recording) (w v : W)
-    (after : IsAfter guest past (cuts guest.syms guest.options.asked (steps_of past)).recent machine costs r)
+module _ {W : Type 0} (m : Meaning W) (guest : Program) (first : W) (past : List RunStep) (machine : Machine)
+    (costs : RunCosts) (r s : Recording) (w v : W)
+    (after : IsAfter guest past (cuts guest.syms guest.options.dump_points (steps_of past)).recent machine costs r)
     (stepped : HaveStepped (steps_of past) r)
     (begins : Begins m guest.syms machine r s w v) where
   abbrev since : List Step
-  since = (cuts guest.syms guest.options.asked (steps_of past)).recent
+  since = (cuts guest.syms guest.options.dump_points (steps_of past)).recent
 
   abbrev t : ThreadNo
   t = begins.thread
@@ -135,7 +135,7 @@ module _ {W : Type 0} (m : Meaning W) (guest : Guest) (first : W) (past : List T
   kept_account other known =
       let has = after.accounts.known other known in
       let P : Account → Type 0 =
-      λ a. Stands guest.syms (stack_at guest.syms (steps_of past) other.0 has.first) (own_seen other.0 since) a in
+      λ a. Stands guest.syms (stack_at guest.syms (steps_of past) other.0 has.first) (events_on_stack_of other.0 since) a in
       let same = begins.prepares.others other known in
       record {
         first = has.first;
@@ -143,34 +143,34 @@ module _ {W : Type 0} (m : Meaning W) (guest : Guest) (first : W) (past : List T
         within = subst (SumsWithin (length (steps_of past))) (sym same) has.within;
       }
 
-  no_steps : knows r t ≡ false → own t.0 (steps_of past) ≡ []
+  no_steps : knows r t ≡ false → steps_of_thread t.0 (steps_of past) ≡ []
   no_steps unknown = after.accounts.unknown t unknown
 
   none_since : (xs ys : List Step) → xs ++ ys ≡ [] → ys ≡ []
   none_since [] ys e = e
   none_since (x ∷ xs) ys e = absurd (cc)
 
-  own_since : knows r t ≡ false → own t.0 since ≡ []
+  own_since : knows r t ≡ false → steps_of_thread t.0 since ≡ []
   own_since unknown =
-      none_since (own t.0 after.earlier) (own t.0 since)
-      (sym (own-append t.0 after.earlier since) ∙ ap (own t.0) (sym after.together) ∙ no_steps unknown)
+      none_since (steps_of_thread t.0 after.earlier) (steps_of_thread t.0 since)
+      (sym (own-append t.0 after.earlier since) ∙ ap (steps_of_thread t.0) (sym after.together) ∙ no_steps unknown)
 
   new_account : knows r t ≡ false → HasAccount guest.syms (steps_of past) since s t
   new_account unknown =
       let is = begins.prepares.started unknown in
       let P : List Step → List Step → Account → Type 0 =
       λ ps ss a.
-      Stands guest.syms (stack_of guest.syms (map event_of ps) begins.pc) (map (λ (y : Step). y.seen) ss) a in
-      let fresh : P [] [] (started guest.syms t begins.pc) = (stands_started guest.syms t begins.pc).since in
+      Stands guest.syms (stack_of guest.syms (map event_of ps) begins.pc) (map (λ (y : Step). y.on_stack) ss) a in
+      let fresh : P [] [] (first_account guest.syms t begins.pc) = (stands_started guest.syms t begins.pc).since in
       record {
         first = begins.pc;
         stands =
-            subst (P (own t.0 (steps_of past)) (own t.0 since)) (sym is)
-            (subst (λ ss. P (own t.0 (steps_of past)) ss (started guest.syms t begins.pc)) (sym (own_since unknown))
-            (subst (λ ps. P ps [] (started guest.syms t begins.pc)) (sym (no_steps unknown)) fresh));
+            subst (P (steps_of_thread t.0 (steps_of past)) (steps_of_thread t.0 since)) (sym is)
+            (subst (λ ss. P (steps_of_thread t.0 (steps_of past)) ss (first_account guest.syms t begins.pc)) (sym (own_since unknown))
+            (subst (λ ps. P ps [] (first_account guest.syms t begins.pc)) (sym (no_steps unknown)) fresh));
         within =
             subst (SumsWithin (length (steps_of past))) (sym is)
-            (within_later 0 (length (steps_of past)) (started guest.syms t begins.pc) (omega arith)
+            (within_later 0 (length (steps_of past)) (first_account guest.syms t begins.pc) (omega arith)
             (within_started guest.syms t begins.pc));
       }
 
@@ -188,7 +188,7 @@ module _ {W : Type 0} (m : Meaning W) (guest : Guest) (first : W) (past : List T
           | inr same ↦
               subst (HasAccount guest.syms (steps_of past) since s) (sym (same_thread other t same)) own_account
         ];
-    unknown = λ other now. elim (was_known other) as (λ _. own other.0 (steps_of past) ≡ []) [
+    unknown = λ other now. elim (was_known other) as (λ _. steps_of_thread other.0 (steps_of past) ≡ []) [
       | inl known ↦ absurd (true_false (sym (begins.prepares.still_known other known) ∙ now))
       | inr unknown ↦ after.accounts.unknown other unknown
     ];
@@ -229,21 +229,21 @@ module _ {W : Type 0} (m : Meaning W) (guest : Guest) (first : W) (past : List T
         (let same = ap (λ (a : Account). length a.frames) (begins.prepares.started unknown) in omega (arith, same))
   ]
 
-  others_now : (other : ThreadNo) → other.0 ≢ t.0 → knows s other ≡ true → own other.0 (steps_of past) ≢ []
-  others_now other apart now = elim (begins.prepares.known other now) as (λ _. own other.0 (steps_of past) ≢ []) [
+  others_now : (other : ThreadNo) → other.0 ≢ t.0 → knows s other ≡ true → steps_of_thread other.0 (steps_of past) ≢ []
+  others_now other apart now = elim (begins.prepares.known other now) as (λ _. steps_of_thread other.0 (steps_of past) ≢ []) [
     | inl known ↦ stepped other known
     | inr same ↦ absurd (apart same)
   ]
 
-  module _ (quiet : (thread : ℕ) → own thread (steps_of past) ≡ []
-      → readied thread (calls_so_far guest (steps_of past)) ≡ None)
+  module _ (quiet : (thread : ℕ) → steps_of_thread thread (steps_of past) ≡ []
+      → ready_pc thread (calls_so_far guest (steps_of past)) ≡ None)
       (watch : IsWatched m guest first (steps_of past) (calls_so_far guest (steps_of past)) w) where
     abbrev cs : List Call
     cs = calls_so_far guest (steps_of past)
 
     fits : Fits guest.syms cs (Readies t begins.pc)
     fits none =
-        let is : readied t.0 cs ≡ None = quiet t.0 (ap (own t.0) (sym watch.steps) ∙ none) in
+        let is : ready_pc t.0 cs ≡ None = quiet t.0 (ap (steps_of_thread t.0) (sym watch.steps) ∙ none) in
         subst (λ o. IfSome o (λ before. before ≡ begins.pc)) (sym is) tt
 
     watch_now : IsWatched m guest first (steps_of past) (cs ++ Readies t begins.pc ∷ []) v
@@ -258,9 +258,9 @@ module _ {W : Type 0} (m : Meaning W) (guest : Guest) (first : W) (past : List T
     pub begun : end_before guest machine past ≡ None → length (account r t).frames ≤ most_frames
         → HasBegun m guest first past machine costs s v
     begun none shallow =
-        let one = or_none (exited machine.whole.exit) _ none in
-        let two = or_none (spent guest.options.budget (length past)) _ one.1 in
-        let three = or_none (full (live guest.syms (steps_of past))) (nobody_ready machine.whole.line.ready) two.1 in
+        let one = or_none (exit_end machine.engine.exit) _ none in
+        let two = or_none (budget_end guest.options.budget (length past)) _ one.1 in
+        let three = or_none (frames_end (live guest.syms (steps_of past))) (waiting_end machine.engine.run_queue.ready) two.1 in
         let few = some_room (live guest.syms (steps_of past)) three.0 in
         let was = after.live in
         let now = begins.prepares.live in

@@ -16,7 +16,7 @@ use Rattle.part_dump.specs.Steps.{Step}
 use Rattle.part_dump.specs.Watching.{Meaning, after_call, after_calls, puts, put_of}
 use Rattle.part_dump.proofs.CutLemmas.{cuts_push}
 use Rattle.sym_map.specs.SymbolMap.{SymbolMap}
-use Rattle.profile_run.specs.Guest.{Guest, head_of_run}
+use Rattle.profile_run.specs.Program.{Program, head_of_run}
 use Rattle.profile_run.specs.Parts.{calls_of, calls_so_far}
 use Rattle.recorder.specs.Rows.{rows_of}
 
@@ -53,9 +53,9 @@ module _ {W : Type 0} (m : Meaning W) (syms : SymbolMap) (base : List ℕ) where
   tried_puts w None = refl
   tried_puts w (Some t) = refl
 
-module _ (guest : Guest) where
+module _ (guest : Program) where
   abbrev pub cuts_of : List Step → Split Step Trigger
-  cuts_of steps = cuts guest.syms guest.options.asked steps
+  cuts_of steps = cuts guest.syms guest.options.dump_points steps
 
   abbrev closed_of : List (List Step × Trigger) → List Call
   closed_of segments = closed_calls (rows_of guest.syms) (head_of_run guest) segments
@@ -81,7 +81,7 @@ module _ (guest : Guest) where
 
   -- the trigger of the cut after one more step, where the run is cut there
   abbrev pub cut_at : List Step → Step → Option Trigger
-  cut_at steps x = cut_after guest.syms guest.options.asked (length steps + 1) x.seen
+  cut_at steps x = cut_after guest.syms guest.options.dump_points (length steps + 1) x.on_stack
 
   abbrev pub may_cut : List Step → Bool
   may_cut steps = nat_lt (length (cuts_of steps).closed) most_cuts
@@ -123,7 +123,7 @@ module _ (guest : Guest) where
       → cuts_of (steps ++ x ∷ [])
       ≡ record { closed = (cuts_of steps).closed; recent = (cuts_of steps).recent ++ x ∷ [] }
   cuts_uncut steps x why =
-      cuts_push guest.syms guest.options.asked steps x ∙ uncut (cuts_of steps) x (cut_at steps x) why
+      cuts_push guest.syms guest.options.dump_points steps x ∙ uncut (cuts_of steps) x (cut_at steps x) why
 
   pub calls_uncut : (steps : List Step) (x : Step) → (cut_at steps x ≡ None) ⊎ (may_cut steps ≡ false)
       → calls_so_far guest (steps ++ x ∷ []) ≡ calls_so_far guest steps ++ step_calls x
@@ -138,7 +138,7 @@ module _ (guest : Guest) where
       ≡ record { closed = (cuts_of steps).closed ++ ((cuts_of steps).recent ++ x ∷ [], trigger) ∷ []; recent = [] }
   cuts_cut steps x trigger is may =
       let s = cuts_of steps in
-      cuts_push guest.syms guest.options.asked steps x ∙ ap (λ o. with_last most_cuts s x o) is
+      cuts_push guest.syms guest.options.dump_points steps x ∙ ap (λ o. with_last most_cuts s x o) is
       ∙ ap (λ b. if b then record { closed = s.closed ++ (s.recent ++ x ∷ [], trigger) ∷ []; recent = [] }
       else record { closed = s.closed; recent = s.recent ++ x ∷ [] }) may
 

@@ -17,14 +17,14 @@ use Rattle.event_costs.specs.declared.numbers.FuncId.{FuncId}
 use Rattle.event_costs.specs.declared.numbers.ThreadNo.{ThreadNo}
 use Rattle.event_costs.specs.declared.outcome.Noted.{Noted}
 use Rattle.event_costs.specs.FuncSet.{is_among}
-use Rattle.cache_lru.specs.Costs.{CanRefer, KeptForRun, Shapes, StandForRun, event_cost}
+use Rattle.cache_lru.specs.Costs.{CanRefer, RunCosts, Shapes, StandForRun, event_cost}
 use Rattle.arc_costs.specs.Lines.{has_line}
 use Rattle.arc_costs.specs.Contents.{Listed}
 use Rattle.rv_step.specs.Promises.{IsWithin}
-use Rattle.guest_load.specs.First.{first_state}
-use Rattle.guest_load.specs.State.{State}
+use Rattle.guest_load.specs.First.{guest_at_start}
+use Rattle.guest_load.specs.Guest.{Guest}
 use Rattle.sym_map.specs.SymbolMap.{SymbolMap, place_of}
-use Rattle.shadow_stack.specs.Changes.{change, gone}
+use Rattle.shadow_stack.specs.Changes.{change, drop_count}
 use Rattle.shadow_stack.specs.Frames.{activation, stack}
 use Rattle.shadow_stack.specs.Stacks.{top_of}
 use Rattle.shadow_stack.specs.Traces.{stack_of}
@@ -34,14 +34,14 @@ use Rattle.recorder.proofs.StayLemmas.{nothing_noted}
 use Rattle.cg_format.specs.declared.head.PartHead.{PartHead}
 use Rattle.guest_sched.proofs.RunLemmas.{made_push}
 use Rattle.guest_sched.specs.Laws.{InOrder, IsReached}
-use Rattle.guest_sched.specs.Seen.{Seen, first_seen, next}
-use Rattle.guest_sched.specs.Step.{Told}
+use Rattle.guest_sched.specs.Machine.{Machine, new_machine, next}
+use Rattle.guest_sched.specs.Step.{MachineStep}
 use Rattle.guest_sched.proofs.OrderLemmas.{Holds, goes_where, holds_next, holds_reached}
 use Rattle.part_dump.specs.Calls.{Call, Readies, Sees, step_calls}
 use Rattle.part_dump.specs.Cuts.{cuts}
 use Rattle.part_dump.specs.Rules.{IsNotedOf}
-use Rattle.part_dump.specs.Steps.{Step, event_of, frames_in, live, own, own_events, stack_at, thread_of}
-use Rattle.part_dump.specs.Watched.{Fits, Follows, IsOrderly, last_of, Watched, steps_in}
+use Rattle.part_dump.specs.Steps.{Step, event_of, frames_in, live, steps_of_thread, events_of_thread, stack_at, thread_of}
+use Rattle.part_dump.specs.Watched.{Fits, Follows, IsOrderly, last_of, AreWatched, steps_in}
 use Rattle.part_dump.specs.Watching.{Can, Meaning, after_call, after_calls}
 use Rattle.part_dump.proofs.StepLemmas.{events-push, length-push, own-other, own-push, stack-push}
 use Rattle.part_dump.proofs.LiveLemmas.{live_push}
@@ -49,15 +49,15 @@ use Rattle.part_dump.proofs.WatchLemmas.{last-push, steps-append, watched_more}
 use Rattle.recorder.specs.Accounts.{Account, IsReady, Recording, account, knows, live_in}
 use Rattle.recorder.specs.Accounts as books
 use Rattle.recorder.specs.Laws.{IsIn}
-use Rattle.recorder.specs.Notes.{CanNote, NeedsNoRoom, noted, noted_answer}
+use Rattle.recorder.specs.Notes.{CanNote, NeedsNoRoom, account_after_note, noted_answer}
 use Rattle.recorder.proofs.BoundLemmas as noting
 use Rattle.recorder.proofs.ListLemmas.{from_append}
 use Rattle.recorder.proofs.TopLaws.{top_follows}
-use Rattle.profile_run.specs.Guest.{Guest}
+use Rattle.profile_run.specs.Program.{Program}
 use Rattle.profile_run.specs.Parts.{calls_so_far}
-use Rattle.profile_run.specs.Trace.{Taken, events_of, going, start, steps_of, taken}
+use Rattle.profile_run.specs.Trace.{RunStep, events_of, next_step, start, steps_of, run_step}
 use Rattle.profile_run.specs.inner.Standing.{AreAccounts, HasBegun, HasStack, HaveStepped, IsAfter, IsCounted, IsMade}
-use Rattle.profile_run.specs.inner.Standing.{IsNote, OnlyAdds, IsWatched, told_of}
+use Rattle.profile_run.specs.inner.Standing.{IsNote, OnlyAdds, IsWatched, machine_step_of}
 use Rattle.profile_run.proofs.AccountLemmas.{accounts_counted}
 use Rattle.profile_run.proofs.CallLemmas.{after-append}
 use Rattle.profile_run.proofs.ToldLemmas.{follows, waits_is}
@@ -82,7 +82,7 @@ any_dropped p (suc n) (f ∷ fs) = ap (λ b. p f.func || b) (any_dropped p n fs)
 pub only_adds : (syms : SymbolMap) (e : Event) (cost : List ℕ) (watched : List FuncId) (n : Noted) (r s : Recording)
     → n ≡ noted_answer syms watched e (account r e.thread).frames
     → has_line (place_of syms e.done.pc) (account r e.thread).lines ≡ true
-    → Stays syms e (account r e.thread).frames → account s e.thread ≡ noted syms e cost (account r e.thread)
+    → Stays syms e (account r e.thread).frames → account s e.thread ≡ account_after_note syms e cost (account r e.thread)
     → (NeedsNoRoom syms e (account r e.thread) → (other : ThreadNo) → IsReady r other → IsReady s other)
     → ((other : ThreadNo) → knows s other ≡ knows r other)
     → books.live s + live_in (account r e.thread).frames ≡ books.live r + live_in (account s e.thread).frames
@@ -111,9 +111,9 @@ ends_in (y ∷ (z ∷ zs)) = elim (ends_in (z ∷ zs)) as
       | inr e ↦ inr (y ∷ e.0, e.1, ap (λ us. y ∷ us) e.2)
     ]
 
-top_at : (syms : SymbolMap) (xs : List Step) (e : Event) → Follows (last_of (own e.thread.0 xs)) e
+top_at : (syms : SymbolMap) (xs : List Step) (e : Event) → Follows (last_of (steps_of_thread e.thread.0 xs)) e
     → top_of (stack_at syms xs e.thread.0 e.done.pc) ≡ Some (place_of syms e.done.pc).func
-top_at syms xs e goes = by_end (own e.thread.0 xs) goes (ends_in (own e.thread.0 xs))
+top_at syms xs e goes = by_end (steps_of_thread e.thread.0 xs) goes (ends_in (steps_of_thread e.thread.0 xs))
   where
     by_end : (ys : List Step) → Follows (last_of ys) e
         → (ys ≡ []) ⊎ ((front : List Step) × (z : Step) × (ys ≡ front ++ z ∷ []))
@@ -139,65 +139,65 @@ pub cost_whole : (branches : Bool) (shapes : Shapes) (before : List Event) (e : 
 unfolding event_cost
 cost_whole branches shapes before e = refl
 
-module _ {W : Type 0} (m : Meaning W) (guest : Guest) (first : W) (past : List Taken) (event : Event) (machine : Seen)
-    (costs : KeptForRun) (r : Recording) (w : W) (made : IsMade m guest first past event machine costs r w) where
+module _ {W : Type 0} (m : Meaning W) (guest : Program) (first : W) (past : List RunStep) (event : Event) (machine : Machine)
+    (costs : RunCosts) (r : Recording) (w : W) (made : IsMade m guest first past event machine costs r w) where
   abbrev begun : HasBegun m guest first past made.before costs r w
   begun = made.begun
 
-  abbrev first_guest : State
-  first_guest = first_state guest.image guest.args guest.input
+  abbrev first_guest : Guest
+  first_guest = guest_at_start guest.image guest.args guest.input
 
-  abbrev x : Taken
-  x = taken guest past made.told
+  abbrev x : RunStep
+  x = run_step guest past made.told
 
   abbrev last : Step
   last = x.step
 
-  held : Holds first_guest (map told_of past) made.before
+  held : Holds first_guest (map machine_step_of past) made.before
   held =
-      holds_reached first_guest guest.options.quantum guest.options.seed (map told_of past) made.before
+      holds_reached first_guest guest.options.quantum guest.options.seed (map machine_step_of past) made.before
       begun.after.reached
 
-  goes : Holds first_guest (map told_of past ++ made.told ∷ []) machine
-      × InOrder first_guest (map told_of past) made.told
-  goes = holds_next first_guest (map told_of past) made.before made.told machine held made.makes
+  goes : Holds first_guest (map machine_step_of past ++ made.told ∷ []) machine
+      × InOrder first_guest (map machine_step_of past) made.told
+  goes = holds_next first_guest (map machine_step_of past) made.before made.told machine held made.makes
 
-  pub in_order : InOrder first_guest (map told_of past) made.told
+  pub in_order : InOrder first_guest (map machine_step_of past) made.told
   in_order = goes.1
 
   pub runs : (made.told.event.thread ≡ begun.thread) × (made.told.event.done.pc ≡ begun.pc)
   runs =
-      goes_where first_guest (map told_of past) made.before begun.thread begun.pc made.told machine held begun.runs
+      goes_where first_guest (map machine_step_of past) made.before begun.thread begun.pc made.told machine held begun.runs
       made.makes
 
-  tolds : map told_of (past ++ x ∷ []) ≡ map told_of past ++ made.told ∷ []
-  tolds = map-append told_of past (x ∷ [])
+  tolds : map machine_step_of (past ++ x ∷ []) ≡ map machine_step_of past ++ made.told ∷ []
+  tolds = map-append machine_step_of past (x ∷ [])
 
   steps : steps_of (past ++ x ∷ []) ≡ steps_of past ++ last ∷ []
-  steps = map-append (λ (y : Taken). y.step) past (x ∷ [])
+  steps = map-append (λ (y : RunStep). y.step) past (x ∷ [])
 
-  reached : IsReached first_guest guest.options.quantum guest.options.seed (map told_of (past ++ x ∷ [])) machine
+  reached : IsReached first_guest guest.options.quantum guest.options.seed (map machine_step_of (past ++ x ∷ [])) machine
   reached =
       let before = begun.after.reached in
       record {
         lawful = before.lawful;
         run =
-            (let P : List Told → Type 0 =
-            λ ts. Run next (first_seen first_guest guest.options.quantum guest.options.seed) ts machine in
+            (let P : List MachineStep → Type 0 =
+            λ ts. Run next (new_machine first_guest guest.options.quantum guest.options.seed) ts machine in
             subst P (sym tolds)
-            (Run-push next (first_seen first_guest guest.options.quantum guest.options.seed) (map told_of past)
+            (Run-push next (new_machine first_guest guest.options.quantum guest.options.seed) (map machine_step_of past)
             made.before made.told machine before.run made.makes));
       }
 
   -- the step is in order
-  pub orderly : IsWhole last.seen.cost → All (λ n. n ≤ 1) last.seen.cost → guest.options.budget ≤ 10 ^ 12
+  pub orderly : IsWhole last.on_stack.cost → All (λ n. n ≤ 1) last.on_stack.cost → guest.options.budget ≤ 10 ^ 12
       → IsOrderly guest.syms (steps_of past) last
   orderly whole ones long = record {
     follows = follows first_guest past (event_of last) in_order.goes_on;
     whole = whole;
     ones = ones;
     room =
-        (let many : length (steps_of past) ≡ length past = length-map past (λ (y : Taken). y.step) in
+        (let many : length (steps_of past) ≡ length past = length-map past (λ (y : RunStep). y.step) in
         let spare = begun.spare in
         omega (arith, many, spare, long));
     frames = (let room = begun.room in let is = begun.after.live in omega (arith, room, is));
@@ -238,7 +238,7 @@ module _ {W : Type 0} (m : Meaning W) (guest : Guest) (first : W) (past : List T
 
   pub top : top_of (stack own_account.frames) ≡ Some (place_of guest.syms event.done.pc).func
   top =
-      let goes_on : Follows (last_of (own made.told.event.thread.0 (steps_of past))) made.told.event
+      let goes_on : Follows (last_of (steps_of_thread made.told.event.thread.0 (steps_of past))) made.told.event
       = follows first_guest past made.told.event in_order.goes_on in
       let P : Event → Type 0 =
       λ e. top_of (stack_at guest.syms (steps_of past) e.thread.0 e.done.pc)
@@ -251,7 +251,7 @@ module _ {W : Type 0} (m : Meaning W) (guest : Guest) (first : W) (past : List T
       → CanNote guest.syms event cost own_account
   can_note cost ones long =
       let has = begun.after.accounts.known event.thread known_own in
-      let many : length (steps_of past) ≡ length past = length-map past (λ (y : Taken). y.step) in
+      let many : length (steps_of past) ≡ length past = length-map past (λ (y : RunStep). y.step) in
       let spare = begun.spare in
       noting.can_note guest.syms event cost own_account (length (steps_of past)) has.within
       (omega (arith, many, spare, long)) (noting.units cost ones)
@@ -269,8 +269,8 @@ module _ {W : Type 0} (m : Meaning W) (guest : Guest) (first : W) (past : List T
       let P : Call → Type 0 = λ c. IsWatched m guest first (steps_of past) (cs_before ++ c ∷ []) w in
       subst P same begun.watch
 
-  watched_last : guest.options.budget ≤ 10 ^ 12 → All (λ k. k ≤ 1) last.seen.cost
-      → Watched guest.syms ((cs_before ++ ready_call ∷ []) ++ Sees last ∷ [])
+  watched_last : guest.options.budget ≤ 10 ^ 12 → All (λ k. k ≤ 1) last.on_stack.cost
+      → AreWatched guest.syms ((cs_before ++ ready_call ∷ []) ++ Sees last ∷ [])
   watched_last long ones =
       let whole = cost_whole guest.options.branch guest.options.shapes (events_of past) made.told.event in
       let fits : Fits guest.syms (cs_before ++ ready_call ∷ []) (Sees last) = (
@@ -284,15 +284,15 @@ module _ {W : Type 0} (m : Meaning W) (guest : Guest) (first : W) (past : List T
   module _ (see : W → Event → List ℕ → Option ℕ → List ThreadNo → SymbolMap → Type 0)
       (write : W → PartHead → Listed → SymbolMap → Type 0) (fresh : W → SymbolMap → Type 0)
       (lasts : (syms : SymbolMap) (f : W) (calls : List Call) (call : Call) → fresh f syms
-      → Watched syms (calls ++ call ∷ []) → Can see write syms (after_calls m syms f calls) call) where
+      → AreWatched syms (calls ++ call ∷ []) → Can see write syms (after_calls m syms f calls) call) where
     pub can_see : fresh first guest.syms → (cost : List ℕ)
         → cost ≡ event_cost guest.options.branch guest.options.shapes (events_of past) event
         → All (λ k. k ≤ 1) cost → guest.options.budget ≤ 10 ^ 12
         → see w event cost machine.wait machine.woken guest.syms
     can_see is_fresh cost costed ones long =
-        let same : last.seen.cost ≡ cost =
+        let same : last.on_stack.cost ≡ cost =
         ap (λ e. event_cost guest.options.branch guest.options.shapes (events_of past) e) made.event ∙ sym costed in
-        let told : see (after_calls m guest.syms first (cs_before ++ ready_call ∷ [])) last.seen.event last.seen.cost
+        let told : see (after_calls m guest.syms first (cs_before ++ ready_call ∷ [])) last.on_stack.event last.on_stack.cost
         last.wait last.woken guest.syms =
         lasts guest.syms first (cs_before ++ ready_call ∷ []) (Sees last) is_fresh
         (watched_last long (subst (All (λ k. k ≤ 1)) (sym same) ones)) in
@@ -302,38 +302,38 @@ module _ {W : Type 0} (m : Meaning W) (guest : Guest) (first : W) (past : List T
         (subst (λ e.
         P (after_calls m guest.syms first (cs_before ++ ready_call ∷ [])) e cost machine.wait machine.woken)
         made.event
-        (subst (λ k. P (after_calls m guest.syms first (cs_before ++ ready_call ∷ [])) last.seen.event k machine.wait
+        (subst (λ k. P (after_calls m guest.syms first (cs_before ++ ready_call ∷ [])) last.on_stack.event k machine.wait
         machine.woken) same
-        (subst (λ wt. P (after_calls m guest.syms first (cs_before ++ ready_call ∷ [])) last.seen.event
-        last.seen.cost wt machine.woken) made.wait
-        (subst (λ wk. P (after_calls m guest.syms first (cs_before ++ ready_call ∷ [])) last.seen.event
-        last.seen.cost last.wait wk) made.woken told))))
+        (subst (λ wt. P (after_calls m guest.syms first (cs_before ++ ready_call ∷ [])) last.on_stack.event
+        last.on_stack.cost wt machine.woken) made.wait
+        (subst (λ wk. P (after_calls m guest.syms first (cs_before ++ ready_call ∷ [])) last.on_stack.event
+        last.on_stack.cost last.wait wk) made.woken told))))
 
   -- ---- what the code counts
 
-  module _ (s : Recording) (after_costs : KeptForRun) (set : List FuncId) (n : Noted) (v : W) (cost : List ℕ)
+  module _ (s : Recording) (after_costs : RunCosts) (set : List FuncId) (n : Noted) (v : W) (cost : List ℕ)
       (note : IsNote guest.syms event cost r s)
       (costed : cost ≡ event_cost guest.options.branch guest.options.shapes (events_of past) event)
       (stand : StandForRun guest.options.branch guest.options.shapes after_costs (events_of past ++ event ∷ []))
       (answer : n ≡ noted_answer guest.syms set event (account r event.thread).frames)
       (told_watch : v ≡ m.after_seen w event cost machine.wait machine.woken guest.syms)
       (whole : IsWhole cost) (ones : All (λ k. k ≤ 1) cost) (long : guest.options.budget ≤ 10 ^ 12) where
-    same_event : last.seen.event ≡ event
+    same_event : last.on_stack.event ≡ event
     same_event = made.event
 
-    same_cost : last.seen.cost ≡ cost
+    same_cost : last.on_stack.cost ≡ cost
     same_cost =
         ap (λ e. event_cost guest.options.branch guest.options.shapes (events_of past) e) made.event ∙ sym costed
 
     abbrev since : List Step
-    since = (cuts guest.syms guest.options.asked (steps_of past)).recent
+    since = (cuts guest.syms guest.options.dump_points (steps_of past)).recent
 
-    own_note : IsNote guest.syms last.seen.event last.seen.cost r s
+    own_note : IsNote guest.syms last.on_stack.event last.on_stack.cost r s
     own_note =
         let P : Event → List ℕ → Type 0 = λ e c. IsNote guest.syms e c r s in
-        subst (λ e. P e last.seen.cost) (sym same_event) (subst (λ c. P event c) (sym same_cost) note)
+        subst (λ e. P e last.on_stack.cost) (sym same_event) (subst (λ c. P event c) (sym same_cost) note)
 
-    frames_are : stack (account r last.seen.event.thread).frames ≡ last.seen.stack
+    frames_are : stack (account r last.on_stack.event.thread).frames ≡ last.on_stack.stack
     frames_are =
         ap (λ t. stack (account r t).frames) runs.0 ∙ begun.stack
         ∙ (λ i. stack_at guest.syms (steps_of past) (sym runs.0 i).0 (sym runs.1 i))
@@ -343,18 +343,18 @@ module _ {W : Type 0} (m : Meaning W) (guest : Guest) (first : W) (past : List T
         accounts_counted guest.syms (steps_of past) since r s last own_note begun.after.accounts
         (ap (λ t. knows r t) runs.0 ∙ begun.known) frames_are refl
 
-    made_grows : made.before.whole.sys.guest.made ≤ machine.whole.sys.guest.made
+    made_grows : made.before.engine.kernel.guest.made ≤ machine.engine.kernel.guest.made
     made_grows =
         let more = in_order.makes.0 in
         let before = held.made in
         let now = goes.0.made in
-        let push = made_push first_guest.made (map told_of past) made.told in
+        let push = made_push first_guest.made (map machine_step_of past) made.told in
         omega (arith, more, before, now, push)
 
-    numbered : thread_of last ≤ made.before.whole.sys.guest.made
+    numbered : thread_of last ≤ made.before.engine.kernel.guest.made
     numbered = let few = in_order.numbered.1 in let is = held.made in omega (arith, few, is)
 
-    beyond : (thread : ℕ) → machine.whole.sys.guest.made < thread → own thread (steps_of past ++ last ∷ []) ≡ []
+    beyond : (thread : ℕ) → machine.engine.kernel.guest.made < thread → steps_of_thread thread (steps_of past ++ last ∷ []) ≡ []
     beyond thread more =
         let grows = made_grows in
         let few = numbered in
@@ -363,12 +363,12 @@ module _ {W : Type 0} (m : Meaning W) (guest : Guest) (first : W) (past : List T
 
     live_now : books.live s ≡ live guest.syms (steps_of past ++ last ∷ [])
     live_now =
-        let t = last.seen.event.thread in
+        let t = last.on_stack.event.thread in
         let now = accounts_now.known t (note.known t ∙ ap (λ u. knows r u) runs.0 ∙ begun.known) in
         let pc = (event_of last).done.pc in
         let stack_now =
         now.stands.stack ∙ ap (λ es. stack_of guest.syms es now.first) (events-push t.0 (steps_of past) last refl)
-        ∙ stack-push guest.syms (own_events t.0 (steps_of past)) (event_of last) now.first in
+        ∙ stack-push guest.syms (events_of_thread t.0 (steps_of past)) (event_of last) now.first in
         let change = own_note.live in
         let a = live_frames (account r t).frames in
         let b = ap frames_in frames_are in
@@ -381,7 +381,7 @@ module _ {W : Type 0} (m : Meaning W) (guest : Guest) (first : W) (past : List T
     after_step : IsAfter guest (past ++ x ∷ []) (since ++ last ∷ []) machine after_costs s
     after_step = record {
       run =
-          Run-push (going guest) (start guest) past (made.before, past) x (machine, past ++ x ∷ []) begun.after.run
+          Run-push (next_step guest) (start guest) past (made.before, past) x (machine, past ++ x ∷ []) begun.after.run
           (going-step guest (made.before, past) made.told machine begun.goes made.makes);
       reached = reached;
       given = goes.0.given;
@@ -394,11 +394,11 @@ module _ {W : Type 0} (m : Meaning W) (guest : Guest) (first : W) (past : List T
           subst P (sym steps) accounts_now);
       made =
           (let P : List Step → Type 0 =
-          λ ps. (thread : ℕ) → machine.whole.sys.guest.made < thread → own thread ps ≡ [] in
+          λ ps. (thread : ℕ) → machine.engine.kernel.guest.made < thread → steps_of_thread thread ps ≡ [] in
           subst P (sym steps) beyond);
       zero =
           (let some = in_order.numbered.0 in
-          ap (own 0) steps ∙ own-other 0 (steps_of past) last (λ e. omega (arith, e, some)) ∙ begun.after.zero);
+          ap (steps_of_thread 0) steps ∙ own-other 0 (steps_of past) last (λ e. omega (arith, e, some)) ∙ begun.after.zero);
       stacks = λ y there.
           elim (from_append (steps_of past) (last ∷ []) y (subst (λ ps. IsIn ps y) steps there)) as
           (λ _. HasStack guest.syms y) [
@@ -407,7 +407,7 @@ module _ {W : Type 0} (m : Meaning W) (guest : Guest) (first : W) (past : List T
                 elim now as (λ _. HasStack guest.syms y) [
                   | inl is ↦
                       subst (HasStack guest.syms) is
-                      (own_events (thread_of last) (steps_of past), (event_of last).done.pc, refl)
+                      (events_of_thread (thread_of last) (steps_of past), (event_of last).done.pc, refl)
                   | inr none ↦ elim none [ ]
                 ]
           ];
@@ -420,19 +420,19 @@ module _ {W : Type 0} (m : Meaning W) (guest : Guest) (first : W) (past : List T
 
     stepped : HaveStepped (steps_of (past ++ x ∷ [])) s
     stepped thread known =
-        let P : List Step → Type 0 = λ ps. own thread.0 ps ≢ [] in
+        let P : List Step → Type 0 = λ ps. steps_of_thread thread.0 ps ≢ [] in
         subst P (sym steps)
-        (elim (eqb_tells thread.0 (thread_of last)) as (λ _. own thread.0 (steps_of past ++ last ∷ []) ≢ []) [
-          | inl is ↦ (λ none. some_pushed (own thread.0 (steps_of past)) last
+        (elim (eqb_tells thread.0 (thread_of last)) as (λ _. steps_of_thread thread.0 (steps_of past ++ last ∷ []) ≢ []) [
+          | inl is ↦ (λ none. some_pushed (steps_of_thread thread.0 (steps_of past)) last
               (sym (own-push thread.0 (steps_of past) last (sym is.1)) ∙ none))
           | inr differs ↦ (λ none. begun.others thread
               (λ e. differs.1 (e ∙ ap (λ (t : ThreadNo). t.0) (sym runs.0))) (sym (note.known thread) ∙ known)
               (sym (own-other thread.0 (steps_of past) last (λ e. differs.1 (sym e))) ∙ none))
         ])
 
-    noted_is : IsNotedOf guest.syms set last.seen n
+    noted_is : IsNotedOf guest.syms set last.on_stack n
     noted_is =
-        let e = last.seen.event in
+        let e = last.on_stack.event in
         let frames = (account r e.thread).frames in
         let P : Event → Type 0 = λ d. n ≡ noted_answer guest.syms set d (account r d.thread).frames in
         let is = subst P (sym same_event) answer in
@@ -442,8 +442,8 @@ module _ {W : Type 0} (m : Meaning W) (guest : Guest) (first : W) (past : List T
               ∙ ap (λ st. option_map (λ a. a.func) (change guest.syms e st).pushed) frames_are;
           left =
               ap (λ (k : Noted). k.left) is
-              ∙ any_dropped (is_among set) (gone guest.syms e (stack frames)) frames
-              ∙ ap (λ st. list_any (λ a. is_among set a.func) (take (gone guest.syms e st) st)) frames_are;
+              ∙ any_dropped (is_among set) (drop_count guest.syms e (stack frames)) frames
+              ∙ ap (λ st. list_any (λ a. is_among set a.func) (take (drop_count guest.syms e st) st)) frames_are;
         }
 
     watched_now : IsWatched m guest first (steps_of (past ++ x ∷ []))
@@ -470,7 +470,7 @@ module _ {W : Type 0} (m : Meaning W) (guest : Guest) (first : W) (past : List T
         record {
           state = told ∙ ap (λ ds. after_calls m guest.syms first ds) split;
           watched =
-              subst (Watched guest.syms) split
+              subst (AreWatched guest.syms) split
               (watched_more guest.syms (cs ++ ready ∷ []) (Sees last) before.watched fits);
           steps =
               ap steps_in (sym split) ∙ steps-append (cs ++ ready ∷ []) (Sees last ∷ [])
@@ -481,16 +481,16 @@ module _ {W : Type 0} (m : Meaning W) (guest : Guest) (first : W) (past : List T
     counted = record { after = after_step; stepped = stepped; noted = noted_is; watch = watched_now }
 
 -- what is promised of each run that has made a step, of the same costs under another name
-pub by_other_costs : {W : Type 0} (m : Meaning W) (event : Event) (machine : Seen) (costs other : KeptForRun)
-    (r : Recording) (watch : W) (syms : SymbolMap) (Q : Guest → W → List Taken → Taken → Type 0) → other ≡ costs
-    → ((guest : Guest) (first : W) (past : List Taken)
+pub by_other_costs : {W : Type 0} (m : Meaning W) (event : Event) (machine : Machine) (costs other : RunCosts)
+    (r : Recording) (watch : W) (syms : SymbolMap) (Q : Program → W → List RunStep → RunStep → Type 0) → other ≡ costs
+    → ((guest : Program) (first : W) (past : List RunStep)
     → (made : IsMade m guest first past event machine other r watch)
-    → guest.syms ≡ syms → guest.options.budget ≤ 10 ^ 12 → Q guest first past (taken guest past made.told))
-    → (guest : Guest) (first : W) (past : List Taken)
+    → guest.syms ≡ syms → guest.options.budget ≤ 10 ^ 12 → Q guest first past (run_step guest past made.told))
+    → (guest : Program) (first : W) (past : List RunStep)
     → (made : IsMade m guest first past event machine costs r watch)
-    → guest.syms ≡ syms → guest.options.budget ≤ 10 ^ 12 → Q guest first past (taken guest past made.told)
+    → guest.syms ≡ syms → guest.options.budget ≤ 10 ^ 12 → Q guest first past (run_step guest past made.told)
 by_other_costs {W} m event machine costs other r watch syms Q same promised =
-    subst (λ (k : KeptForRun). (guest : Guest) (first : W) (past : List Taken)
+    subst (λ (k : RunCosts). (guest : Program) (first : W) (past : List RunStep)
     → (made : IsMade m guest first past event machine k r watch)
-    → guest.syms ≡ syms → guest.options.budget ≤ 10 ^ 12 → Q guest first past (taken guest past made.told))
+    → guest.syms ≡ syms → guest.options.budget ≤ 10 ^ 12 → Q guest first past (run_step guest past made.told))
     same promised

@@ -7,17 +7,17 @@ use Rattle.std.proofs.lemmas.Bool.Decides.{eqb_tells}
 use Rattle.std.proofs.lemmas.List.{append-nil, map-append}
 use Rattle.event_costs.specs.declared.numbers.FuncId.{FuncId}
 use Rattle.event_costs.specs.declared.outcome.Noted.{Noted}
-use Rattle.cache_lru.specs.Costs.{KeptForRun}
+use Rattle.cache_lru.specs.Costs.{RunCosts}
 use Rattle.cg_format.specs.declared.head.PartHead.{PartHead}
-use Rattle.guest_sched.specs.Seen.{Seen}
+use Rattle.guest_sched.specs.Machine.{Machine}
 use Rattle.recorder.specs.Accounts.{Recording}
 use Rattle.part_dump.specs.Calls.{Call, step_calls}
-use Rattle.part_dump.specs.Steps.{Step, own, thread_of}
-use Rattle.part_dump.specs.Watched.{readied}
+use Rattle.part_dump.specs.Steps.{Step, steps_of_thread, thread_of}
+use Rattle.part_dump.specs.Watched.{ready_pc}
 use Rattle.part_dump.specs.Watching.{Meaning, puts}
-use Rattle.profile_run.specs.Guest.{Guest}
+use Rattle.profile_run.specs.Program.{Program}
 use Rattle.profile_run.specs.Parts.{calls_so_far}
-use Rattle.profile_run.specs.Trace.{Taken, steps_of}
+use Rattle.profile_run.specs.Trace.{RunStep, steps_of}
 use Rattle.profile_run.specs.inner.Standing.{IsAfter, IsUncut, IsWatched, StandsAfter, files_at}
 use Rattle.part_dump.proofs.StepLemmas.{own-append, own-push}
 use Rattle.part_dump.proofs.WatchLemmas.{readied-append}
@@ -27,8 +27,8 @@ some_pushed : (xs : List Step) (x : Step) → xs ++ x ∷ [] ≢ []
 some_pushed [] x e = cc
 some_pushed (y ∷ ys) x e = cc
 
-module _ {W : Type 0} (m : Meaning W) (guest : Guest) (first : W) (past : List Taken) (last : Taken) (set : List FuncId)
-    (noted : Noted) (machine : Seen) (costs : KeptForRun) (r : Recording) (h : PartHead) (w : W)
+module _ {W : Type 0} (m : Meaning W) (guest : Program) (first : W) (past : List RunStep) (last : RunStep) (set : List FuncId)
+    (noted : Noted) (machine : Machine) (costs : RunCosts) (r : Recording) (h : PartHead) (w : W)
     (u : IsUncut m guest first past last set noted machine costs r h w) where
   abbrev steps : List Step
   steps = steps_of past
@@ -37,15 +37,15 @@ module _ {W : Type 0} (m : Meaning W) (guest : Guest) (first : W) (past : List T
   now = steps_of (past ++ last ∷ [])
 
   now_is : now ≡ steps ++ last.step ∷ []
-  now_is = map-append (λ (y : Taken). y.step) past (last ∷ [])
+  now_is = map-append (λ (y : RunStep). y.step) past (last ∷ [])
 
   -- a thread without steps has none before, and isn't that of the last
-  none_before : (thread : ℕ) → own thread now ≡ [] → (own thread steps ≡ []) × (thread_of last.step ≢ thread)
+  none_before : (thread : ℕ) → steps_of_thread thread now ≡ [] → (steps_of_thread thread steps ≡ []) × (thread_of last.step ≢ thread)
   none_before thread none =
-      let all : own thread (steps ++ last.step ∷ []) ≡ [] = ap (own thread) (sym now_is) ∙ none in (
-        left (own thread steps) (own thread (last.step ∷ []))
+      let all : steps_of_thread thread (steps ++ last.step ∷ []) ≡ [] = ap (steps_of_thread thread) (sym now_is) ∙ none in (
+        left (steps_of_thread thread steps) (steps_of_thread thread (last.step ∷ []))
             (sym (own-append thread steps (last.step ∷ [])) ∙ all),
-        (λ is. some_pushed (own thread steps) last.step (sym (own-push thread steps last.step is) ∙ all)),
+        (λ is. some_pushed (steps_of_thread thread steps) last.step (sym (own-push thread steps last.step is) ∙ all)),
       )
     where
       left : (xs ys : List Step) → xs ++ ys ≡ [] → xs ≡ []
@@ -53,8 +53,8 @@ module _ {W : Type 0} (m : Meaning W) (guest : Guest) (first : W) (past : List T
       left (x ∷ xs) ys e = absurd (cc)
 
   -- once the step is told
-  pub quiet_step : (thread : ℕ) → own thread now ≡ []
-      → readied thread (calls_so_far guest steps ++ step_calls last.step) ≡ None
+  pub quiet_step : (thread : ℕ) → steps_of_thread thread now ≡ []
+      → ready_pc thread (calls_so_far guest steps ++ step_calls last.step) ≡ None
   quiet_step thread none =
       let before = none_before thread none in
       readied-append thread (calls_so_far guest steps) (step_calls last.step)
@@ -63,10 +63,10 @@ module _ {W : Type 0} (m : Meaning W) (guest : Guest) (first : W) (past : List T
       by : {o : Option ℕ} → ((thread_of last.step == thread ≡ true) × (thread_of last.step ≡ thread))
           ⊎ ((thread_of last.step == thread ≡ false) × (thread_of last.step ≢ thread))
           → thread_of last.step ≢ thread → o ≡ None
-          → (if thread_of last.step == thread then Some last.step.seen.event.done.pc else o) ≡ None
+          → (if thread_of last.step == thread then Some last.step.on_stack.event.done.pc else o) ≡ None
       by (inl is) other same = absurd (other is.1)
       by {o} (inr differs) other same =
-          ap (λ b. if b then Some last.step.seen.event.done.pc else o) differs.0 ∙ same
+          ap (λ b. if b then Some last.step.on_stack.event.done.pc else o) differs.0 ∙ same
 
   -- a step puts no file
   pub files_step : puts m guest.syms guest.options.base first (calls_so_far guest steps ++ step_calls last.step)
@@ -83,8 +83,8 @@ module _ {W : Type 0} (m : Meaning W) (guest : Guest) (first : W) (past : List T
     calls_now : calls_so_far guest now ≡ calls_so_far guest steps ++ step_calls last.step
     calls_now = ap (calls_so_far guest) now_is ∙ calls_uncut guest steps last.step why
 
-    quiet_now : (thread : ℕ) → own thread now ≡ [] → readied thread (calls_so_far guest now) ≡ None
-    quiet_now thread none = ap (readied thread) calls_now ∙ quiet_step thread none
+    quiet_now : (thread : ℕ) → steps_of_thread thread now ≡ [] → ready_pc thread (calls_so_far guest now) ≡ None
+    quiet_now thread none = ap (ready_pc thread) calls_now ∙ quiet_step thread none
 
     -- the run goes on
     pub uncut : StandsAfter m guest first (past ++ last ∷ []) machine costs r h w

@@ -10,9 +10,9 @@ use Rattle.event_costs.specs.declared.numbers.FuncId.{FuncId}
 use Rattle.event_costs.specs.declared.numbers.ThreadNo.{ThreadNo}
 use Rattle.event_costs.specs.declared.outcome.Noted.{Noted}
 use Rattle.cg_format.specs.declared.trigger.Trigger.{Trigger}
-use Rattle.cache_lru.specs.Costs.{KeptForRun}
+use Rattle.cache_lru.specs.Costs.{RunCosts}
 use Rattle.cg_format.specs.declared.head.PartHead.{PartHead}
-use Rattle.guest_sched.specs.Seen.{Seen}
+use Rattle.guest_sched.specs.Machine.{Machine}
 use Rattle.recorder.specs.Accounts.{Recording, account, knows}
 use Rattle.recorder.specs.Laws.{IsIn}
 use Rattle.recorder.specs.Standing.{Stands}
@@ -20,13 +20,13 @@ use Rattle.cg_format.specs.Rows.{below}
 use Rattle.recorder.specs.Accounts as books
 use Rattle.shadow_stack.specs.Traces as recorded
 use Rattle.part_dump.specs.Calls.{Call, step_calls, thread_calls}
-use Rattle.part_dump.specs.Steps.{Step, live, own, own_seen, stack_at}
-use Rattle.part_dump.specs.Watched.{readied, readied_after}
+use Rattle.part_dump.specs.Steps.{Step, live, steps_of_thread, events_on_stack_of, stack_at}
+use Rattle.part_dump.specs.Watched.{ready_pc, ready_pc_after}
 use Rattle.part_dump.specs.Watching.{Meaning, after_calls, puts}
-use Rattle.profile_run.specs.Guest.{Guest, head_of_run}
+use Rattle.profile_run.specs.Program.{Program, head_of_run}
 use Rattle.profile_run.specs.Parts.{calls_so_far}
 use Rattle.recorder.specs.Rows.{rows_of}
-use Rattle.profile_run.specs.Trace.{Taken, steps_of}
+use Rattle.profile_run.specs.Trace.{RunStep, steps_of}
 use Rattle.profile_run.specs.inner.Standing.{HasAccount, IsHead, IsPutting, IsUncut, IsWatched, Plan}
 use Rattle.profile_run.specs.inner.Standing.{calls_below}
 use Rattle.profile_run.specs.inner.Standing.{HaveStepped, IsAfter, IsCutAt, StandsAfter, all_calls, files_after}
@@ -39,8 +39,8 @@ use Rattle.profile_run.proofs.CutLemmas.{files_step, quiet_step}
 use Rattle.profile_run.proofs.PutLemmas.{below-all, below-next, no_calls}
 use Rattle.profile_run.proofs.PuttingLemmas.{none_left}
 
-module _ {W : Type 0} (m : Meaning W) (guest : Guest) (first : W) (past : List Taken) (last : Taken) (set : List FuncId)
-    (noted : Noted) (machine : Seen) (costs : KeptForRun) (r : Recording) (h : PartHead) (w : W)
+module _ {W : Type 0} (m : Meaning W) (guest : Program) (first : W) (past : List RunStep) (last : RunStep) (set : List FuncId)
+    (noted : Noted) (machine : Machine) (costs : RunCosts) (r : Recording) (h : PartHead) (w : W)
     (u : IsUncut m guest first past last set noted machine costs r h w) (folder : Shelf) where
   abbrev now : List Step
   now = steps_of (past ++ last ∷ [])
@@ -58,15 +58,15 @@ module _ {W : Type 0} (m : Meaning W) (guest : Guest) (first : W) (past : List T
   }
 
   -- a thread without steps has none in the segment
-  pub none_in : (thread : ℕ) → own thread now ≡ [] → own thread cut_plan.segment ≡ []
+  pub none_in : (thread : ℕ) → steps_of_thread thread now ≡ [] → steps_of_thread thread cut_plan.segment ≡ []
   none_in thread none =
-      none_left (own thread u.counted.after.earlier) (own thread cut_plan.segment)
+      none_left (steps_of_thread thread u.counted.after.earlier) (steps_of_thread thread cut_plan.segment)
       (sym (own-append thread u.counted.after.earlier cut_plan.segment)
-      ∙ ap (own thread) (sym u.counted.after.together) ∙ none)
+      ∙ ap (steps_of_thread thread) (sym u.counted.after.together) ∙ none)
 
   not_zero : (thread : ThreadNo) → knows r thread ≡ true → thread.0 ≢ 0
   not_zero thread known is =
-      u.counted.stepped thread known (ap (λ n. own n now) is ∙ u.counted.after.zero)
+      u.counted.stepped thread known (ap (λ n. steps_of_thread n now) is ∙ u.counted.after.zero)
 
   all_since : (thread : ℕ) → thread ≢ 0 → cut_plan.segment ≡ since_of 1 cut_plan.segment thread
   all_since thread some = ap (λ b. if b then [] else cut_plan.segment) (sym (below_one thread some))
@@ -103,22 +103,22 @@ module _ {W : Type 0} (m : Meaning W) (guest : Guest) (first : W) (past : List T
 
   -- the calls of parts tell nothing of threads that are ready
   parts_quiet : (thread part : ℕ) (trigger : Trigger) (o : Option ℕ) (ts : List ℕ)
-      → readied_after thread o
+      → ready_pc_after thread o
       (flat_map (λ t. thread_calls (rows_of guest.syms) (head_of_run guest) part trigger t
-      (own_seen t cut_plan.segment)) ts) ≡ o
+      (events_on_stack_of t cut_plan.segment)) ts) ≡ o
   parts_quiet thread part trigger o [] = refl
   parts_quiet thread part trigger o (t ∷ ts) =
       readied-from thread o
-      (thread_calls (rows_of guest.syms) (head_of_run guest) part trigger t (own_seen t cut_plan.segment))
+      (thread_calls (rows_of guest.syms) (head_of_run guest) part trigger t (events_on_stack_of t cut_plan.segment))
       (flat_map (λ s. thread_calls (rows_of guest.syms) (head_of_run guest) part trigger s
-      (own_seen s cut_plan.segment)) ts)
-      ∙ ap (λ p. readied_after thread p
+      (events_on_stack_of s cut_plan.segment)) ts)
+      ∙ ap (λ p. ready_pc_after thread p
       (flat_map (λ s. thread_calls (rows_of guest.syms) (head_of_run guest) part trigger s
-      (own_seen s cut_plan.segment)) ts)) (by (own_seen t cut_plan.segment))
+      (events_on_stack_of s cut_plan.segment)) ts)) (by (events_on_stack_of t cut_plan.segment))
       ∙ parts_quiet thread part trigger o ts
     where
-      by : (xs : List recorded.Seen)
-          → readied_after thread o (thread_calls (rows_of guest.syms) (head_of_run guest) part trigger t xs) ≡ o
+      by : (xs : List recorded.EventOnStack)
+          → ready_pc_after thread o (thread_calls (rows_of guest.syms) (head_of_run guest) part trigger t xs) ≡ o
       by [] = refl
       by (x ∷ xs) = refl
 
@@ -131,30 +131,30 @@ module _ {W : Type 0} (m : Meaning W) (guest : Guest) (first : W) (past : List T
             recent = [];
           }
       cuts_now =
-          ap (cuts_of guest) (map-append (λ (y : Taken). y.step) past (last ∷ []))
+          ap (cuts_of guest) (map-append (λ (y : RunStep). y.step) past (last ∷ []))
           ∙ cuts_cut guest (steps_of past) last.step trigger cut may
 
-      none_beyond : (t : ℕ) → machine.whole.sys.guest.made + 1 ≤ t → own t cut_plan.segment ≡ []
+      none_beyond : (t : ℕ) → machine.engine.kernel.guest.made + 1 ≤ t → steps_of_thread t cut_plan.segment ≡ []
       none_beyond t le = none_in t (u.counted.after.made t (omega (arith, le)))
 
-      calls_now : cut_plan.before ++ calls_below cut_plan part trigger (machine.whole.sys.guest.made + 1)
+      calls_now : cut_plan.before ++ calls_below cut_plan part trigger (machine.engine.kernel.guest.made + 1)
           ≡ calls_so_far guest now
       calls_now =
           ap (λ cs. cut_plan.before ++ cs)
-          (below-all m cut_plan part trigger (machine.whole.sys.guest.made + 1) none_beyond
+          (below-all m cut_plan part trigger (machine.engine.kernel.guest.made + 1) none_beyond
           ∙ ap (λ n. all_calls cut_plan n trigger) number)
-          ∙ sym (ap (calls_so_far guest) (map-append (λ (y : Taken). y.step) past (last ∷ []))
+          ∙ sym (ap (calls_so_far guest) (map-append (λ (y : RunStep). y.step) past (last ∷ []))
           ∙ calls_cut guest (steps_of past) last.step trigger cut may)
 
       -- the files are those of the cuts
-      pub files_now : files_after m cut_plan (calls_below cut_plan part trigger (machine.whole.sys.guest.made + 1))
+      pub files_now : files_after m cut_plan (calls_below cut_plan part trigger (machine.engine.kernel.guest.made + 1))
           ≡ files_at m guest first now
       files_now =
           ap (λ fs. fs ++ puts m guest.syms guest.options.base (after_calls m guest.syms first cut_plan.before)
-          (calls_below cut_plan part trigger (machine.whole.sys.guest.made + 1)))
+          (calls_below cut_plan part trigger (machine.engine.kernel.guest.made + 1)))
           (sym (files_step m guest first past last set noted machine costs r h w u))
           ∙ sym (puts-append m guest.syms guest.options.base first cut_plan.before
-          (calls_below cut_plan part trigger (machine.whole.sys.guest.made + 1)))
+          (calls_below cut_plan part trigger (machine.engine.kernel.guest.made + 1)))
           ∙ ap (puts m guest.syms guest.options.base first) calls_now
 
       pub ends_there : IsCutAt guest part now
@@ -166,19 +166,19 @@ module _ {W : Type 0} (m : Meaning W) (guest : Guest) (first : W) (past : List T
       }
 
       module _ (k : PartHead) (s : Recording) (v : W)
-          (is : IsPutting m cut_plan (machine.whole.sys.guest.made + 1) k s v) (same_part : k.part ≡ part)
+          (is : IsPutting m cut_plan (machine.engine.kernel.guest.made + 1) k s v) (same_part : k.part ≡ part)
           (same_trigger : k.trigger ≡ trigger) (stepped : HaveStepped now s)
           (live_now : books.live s ≡ live guest.syms now) where
         none_since : (thread : ℕ)
-            → own_seen thread (since_of (machine.whole.sys.guest.made + 1) cut_plan.segment thread) ≡ []
-        none_since thread = by (nat_lt thread (machine.whole.sys.guest.made + 1)) refl
+            → events_on_stack_of thread (since_of (machine.engine.kernel.guest.made + 1) cut_plan.segment thread) ≡ []
+        none_since thread = by (nat_lt thread (machine.engine.kernel.guest.made + 1)) refl
           where
-            by : (b : Bool) → nat_lt thread (machine.whole.sys.guest.made + 1) ≡ b
-                → own_seen thread (if b then [] else cut_plan.segment) ≡ []
+            by : (b : Bool) → nat_lt thread (machine.engine.kernel.guest.made + 1) ≡ b
+                → events_on_stack_of thread (if b then [] else cut_plan.segment) ≡ []
             by true less = refl
             by false less =
-                ap (map (λ (y : Step). y.seen))
-                (none_beyond thread (past_it thread (machine.whole.sys.guest.made + 1) less))
+                ap (map (λ (y : Step). y.on_stack))
+                (none_beyond thread (past_it thread (machine.engine.kernel.guest.made + 1) less))
               where
                 past_it : (n m : ℕ) → nat_lt n m ≡ false → m ≤ n
                 past_it n m e = grind (arith, nat_tests)
@@ -222,16 +222,16 @@ module _ {W : Type 0} (m : Meaning W) (guest : Guest) (first : W) (past : List T
               ∙ sym (ap (λ q. length q.closed + 1) cuts_now
               ∙ ap (λ n. n + 1) (length_push (cuts_of guest (steps_of past)).closed (cut_plan.segment, trigger)));
           quiet = λ thread none.
-              ap (readied thread) (sym calls_now)
+              ap (ready_pc thread) (sym calls_now)
               ∙ readied-append thread cut_plan.before
-              (calls_below cut_plan part trigger (machine.whole.sys.guest.made + 1))
-              ∙ parts_quiet thread part trigger (readied thread cut_plan.before)
-              (below (machine.whole.sys.guest.made + 1))
+              (calls_below cut_plan part trigger (machine.engine.kernel.guest.made + 1))
+              ∙ parts_quiet thread part trigger (ready_pc thread cut_plan.before)
+              (below (machine.engine.kernel.guest.made + 1))
               ∙ quiet_step m guest first past last set noted machine costs r h w u thread none;
           watch =
               (let P : List Call → Type 0 = λ cs. IsWatched m guest first now cs v in
               subst P
               ((λ i. cut_plan.before
-              ++ calls_below cut_plan (same_part i) (same_trigger i) (machine.whole.sys.guest.made + 1))
+              ++ calls_below cut_plan (same_part i) (same_trigger i) (machine.engine.kernel.guest.made + 1))
               ∙ calls_now) is.watch);
         }

@@ -9,10 +9,10 @@ use Rattle.event_costs.specs.declared.numbers.FuncId.{FuncId}
 use Rattle.event_costs.specs.declared.numbers.ThreadNo.{ThreadNo}
 use Rattle.event_costs.specs.declared.outcome.Noted.{Noted}
 use Rattle.cg_format.specs.declared.trigger.Trigger.{Trigger}
-use Rattle.cache_lru.specs.Costs.{KeptForRun}
+use Rattle.cache_lru.specs.Costs.{RunCosts}
 use Rattle.sym_map.specs.SymbolMap.{SymbolMap}
 use Rattle.cg_format.specs.declared.head.PartHead.{PartHead}
-use Rattle.guest_sched.specs.Seen.{Seen}
+use Rattle.guest_sched.specs.Machine.{Machine}
 use Rattle.part_dump.specs.Cuts.{cut_after, cuts, most_cuts}
 use Rattle.part_dump.specs.Rules.{IsNotedOf}
 use Rattle.part_dump.specs.Steps.{Step}
@@ -21,8 +21,8 @@ use Rattle.part_dump.proofs.StepLemmas.{length-push}
 use Rattle.recorder.specs.Accounts.{Recording, knows}
 use Rattle.recorder.specs.Accounts as books
 use Rattle.recorder.specs.inner.Known.{KnowsPlaces}
-use Rattle.profile_run.specs.Guest.{Guest, Options}
-use Rattle.profile_run.specs.Trace.{Taken, steps_of}
+use Rattle.profile_run.specs.Program.{Program, Options}
+use Rattle.profile_run.specs.Trace.{RunStep, steps_of}
 use Rattle.profile_run.specs.inner.Standing.{ArePut, CanPut, Cuts, HasPut, IsCutAt, IsPutting, IsUncut, Plan, PutWants}
 use Rattle.profile_run.specs.inner.Standing.{RefusedBy}
 use Rattle.profile_run.specs.inner.Standing.{StandsAfter, calls_below, files_after, files_at}
@@ -36,8 +36,8 @@ use Rattle.profile_run.proofs.CutLemmas.{files_uncut, uncut}
 use Rattle.profile_run.proofs.CutPartLemmas as parts
 use Rattle.profile_run.proofs.EndingLemmas.{steps_are}
 
-module _ {W : Type 0} (m : Meaning W) {guest : Guest} {first : W} {past : List Taken} {last : Taken} {set : List FuncId}
-    {noted : Noted} {machine : Seen} {costs : KeptForRun} {r : Recording} {h : PartHead} {w : W}
+module _ {W : Type 0} (m : Meaning W) {guest : Program} {first : W} {past : List RunStep} {last : RunStep} {set : List FuncId}
+    {noted : Noted} {machine : Machine} {costs : RunCosts} {r : Recording} {h : PartHead} {w : W}
     (u : IsUncut m guest first past last set noted machine costs r h w) where
   abbrev before : List Step
   before = steps_of past
@@ -47,32 +47,32 @@ module _ {W : Type 0} (m : Meaning W) {guest : Guest} {first : W} {past : List T
 
   -- only so many cuts count
   pub full : most_cuts < h.part → may_cut guest before ≡ false
-  full more = by (length (cuts guest.syms guest.options.asked before).closed) u.number
+  full more = by (length (cuts guest.syms guest.options.dump_points before).closed) u.number
     where
       by : (n : ℕ) → h.part ≡ n + 1 → nat_lt n most_cuts ≡ false
       by n e = grind (arith, nat_tests)
 
   pub room : h.part ≤ most_cuts → may_cut guest before ≡ true
-  room few = by (length (cuts guest.syms guest.options.asked before).closed) u.number
+  room few = by (length (cuts guest.syms guest.options.dump_points before).closed) u.number
     where
       by : (n : ℕ) → h.part ≡ n + 1 → nat_lt n most_cuts ≡ true
       by n e = grind (arith, nat_tests)
 
-  so_many : machine.whole.sys.guest.steps ≡ length before + 1
+  so_many : machine.engine.kernel.guest.steps ≡ length before + 1
   so_many =
       steps_are guest (past ++ last ∷ []) machine u.counted.after.reached ∙ length-push past last
-      ∙ ap (λ n. n + 1) (sym (length-map past (λ (x : Taken). x.step)))
+      ∙ ap (λ n. n + 1) (sym (length-map past (λ (x : RunStep). x.step)))
 
   -- the cut after the step, as the rule looks at it
   pub cut_is : {syms : SymbolMap} {opts : Options} → guest.syms ≡ syms → guest.options ≡ opts → (n : ℕ)
-      → n ≡ machine.whole.sys.guest.steps
-      → cut_at guest before last.step ≡ cut_after syms opts.asked n last.step.seen
+      → n ≡ machine.engine.kernel.guest.steps
+      → cut_at guest before last.step ≡ cut_after syms opts.dump_points n last.step.on_stack
   cut_is {syms = syms} {opts = opts} symbols options n is =
-      (λ i. cut_after (symbols i) (options i).asked (sym so_many i) last.step.seen)
-      ∙ ap (λ k. cut_after syms opts.asked k last.step.seen) (sym is)
+      (λ i. cut_after (symbols i) (options i).dump_points (sym so_many i) last.step.on_stack)
+      ∙ ap (λ k. cut_after syms opts.dump_points k last.step.on_stack) (sym is)
 
-  pub noted_is : {syms : SymbolMap} → guest.syms ≡ syms → IsNotedOf syms set last.step.seen noted
-  noted_is symbols = subst (λ syms. IsNotedOf syms set last.step.seen noted) symbols u.counted.noted
+  pub noted_is : {syms : SymbolMap} → guest.syms ≡ syms → IsNotedOf syms set last.step.on_stack noted
+  noted_is symbols = subst (λ syms. IsNotedOf syms set last.step.on_stack noted) symbols u.counted.noted
 
   pub put_as : {opts : Options} → guest.options ≡ opts → {old at : Shelf} {items : List PartFile}
       → HasPut opts.base (files_at m guest first before) old at items
@@ -83,7 +83,7 @@ module _ {W : Type 0} (m : Meaning W) {guest : Guest} {first : W} {past : List T
   -- ---- the parts of the segment that ends there
 
   abbrev made : ℕ
-  made = machine.whole.sys.guest.made
+  made = machine.engine.kernel.guest.made
 
   -- what they are put of, into this folder
   abbrev pub plan : Shelf → Plan W
@@ -195,7 +195,7 @@ module _ {W : Type 0} (m : Meaning W) {guest : Guest} {first : W} {past : List T
           )
 
 -- a fault that is answered on
-pub answered : {W A : Type 0} (m : Meaning W) (guest : Guest) (first : W) (past : List Taken) (part : ℕ)
+pub answered : {W A : Type 0} (m : Meaning W) (guest : Program) (first : W) (past : List RunStep) (part : ℕ)
     (old : Shelf) (faults : ℕ) (result : Result A RunFault) (fault : RunFault) (c : Counting) (p : Parts) (w : W)
     (new : Shelf) (now_faults : ℕ)
     → IsErrAnd result (λ f. f ≡ fault)

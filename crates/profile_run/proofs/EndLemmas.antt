@@ -7,65 +7,65 @@ use Rattle.std.proofs.lemmas.Bool.Decides.{nat_tests}
 use Rattle.event_costs.specs.declared.numbers.ThreadNo.{ThreadNo}
 use Rattle.event_costs.specs.declared.outcome.End.{End}
 use Rattle.event_costs.specs.declared.outcome.End.TheVariants.{Budget, Frames}
-use Rattle.guest_sched.specs.Seen.{Seen, ended, or_over, over}
-use Rattle.guest_sched.specs.Whole.{first_of}
+use Rattle.guest_sched.specs.Machine.{Machine, ended, or_known_end, known_end}
+use Rattle.guest_sched.specs.Engine.{first_of}
 use Rattle.shadow_stack.specs.Stacks.{most_frames}
-use Rattle.profile_run.specs.Trace.{exited, full, nobody_ready, or_else, spent}
+use Rattle.profile_run.specs.Trace.{exit_end, frames_end, waiting_end, or_else, budget_end}
 use Rattle.profile_run.specs.inner.Standing.{is_exit}
 use Rattle.part_dump.proofs.StepLemmas.{is_not}
 
-pub ended_is : (m : Seen) → m.given ≡ None → ended m ≡ over m.whole.exit (first_of m.whole.line.ready)
+pub ended_is : (m : Machine) → m.given ≡ None → ended m ≡ known_end m.engine.exit (first_of m.engine.run_queue.ready)
 unfolding ended
-ended_is m none = ap (λ o. or_over o m.whole) none
+ended_is m none = ap (λ o. or_known_end o m.engine) none
 
 true_false : true ≡ false → ⊥
 true_false e = cc
 
 exit_first : (exit : Option ℕ) (ready : List ThreadNo) (rest : Option End)
-    → is_exit (over exit (first_of ready)) ≡ true → over exit (first_of ready) ≡ or_else (exited exit) rest
+    → is_exit (known_end exit (first_of ready)) ≡ true → known_end exit (first_of ready) ≡ or_else (exit_end exit) rest
 exit_first (Some code) ready rest is = refl
 exit_first None [] rest is = absurd (true_false (sym is))
 exit_first None (t ∷ ts) rest is = absurd (true_false (sym is))
 
-no_exit : (exit : Option ℕ) (ready : List ThreadNo) → is_exit (over exit (first_of ready)) ≡ false → exited exit ≡ None
+no_exit : (exit : Option ℕ) (ready : List ThreadNo) → is_exit (known_end exit (first_of ready)) ≡ false → exit_end exit ≡ None
 no_exit (Some code) ready is = absurd (true_false is)
 no_exit None ready is = refl
 
-nobody : (exit : Option ℕ) (ready : List ThreadNo) → is_exit (over exit (first_of ready)) ≡ false
-    → over exit (first_of ready) ≡ nobody_ready ready
+nobody : (exit : Option ℕ) (ready : List ThreadNo) → is_exit (known_end exit (first_of ready)) ≡ false
+    → known_end exit (first_of ready) ≡ waiting_end ready
 nobody (Some code) ready is = absurd (true_false is)
 nobody None [] is = refl
 nobody None (t ∷ ts) is = refl
 
-module _ (m : Seen) (given : m.given ≡ None) (e : Option End) (is : e ≡ ended m) (budget steps frames : ℕ) where
+module _ (m : Machine) (given : m.given ≡ None) (e : Option End) (is : e ≡ ended m) (budget steps frames : ℕ) where
   abbrev exit : Option ℕ
-  exit = m.whole.exit
+  exit = m.engine.exit
 
   abbrev ready : List ThreadNo
-  ready = m.whole.line.ready
+  ready = m.engine.run_queue.ready
 
-  e_is : e ≡ over exit (first_of ready)
+  e_is : e ≡ known_end exit (first_of ready)
   e_is = is ∙ ended_is m given
 
   pub where_exited : is_exit e ≡ true
-      → e ≡ or_else (exited exit) (or_else (spent budget steps) (or_else (full frames) (nobody_ready ready)))
+      → e ≡ or_else (exit_end exit) (or_else (budget_end budget steps) (or_else (frames_end frames) (waiting_end ready)))
   where_exited yes_ = e_is ∙ exit_first exit ready _ (ap is_exit (sym e_is) ∙ yes_)
 
-  skip_exit : is_exit e ≡ false → (rest : Option End) → rest ≡ or_else (exited exit) rest
+  skip_exit : is_exit e ≡ false → (rest : Option End) → rest ≡ or_else (exit_end exit) rest
   skip_exit other rest = ap (λ o. or_else o rest) (sym (no_exit exit ready (ap is_exit (sym e_is) ∙ other)))
 
   pub where_spent : is_exit e ≡ false → steps ≡ budget → Some (Budget budget)
-      ≡ or_else (exited exit) (or_else (spent budget steps) (or_else (full frames) (nobody_ready ready)))
+      ≡ or_else (exit_end exit) (or_else (budget_end budget steps) (or_else (frames_end frames) (waiting_end ready)))
   where_spent other all =
-      ap (λ b. or_else (if b then Some (Budget budget) else None) (or_else (full frames) (nobody_ready ready)))
+      ap (λ b. or_else (if b then Some (Budget budget) else None) (or_else (frames_end frames) (waiting_end ready)))
       (sym (eq-eqb steps budget all))
-      ∙ skip_exit other (or_else (spent budget steps) (or_else (full frames) (nobody_ready ready)))
+      ∙ skip_exit other (or_else (budget_end budget steps) (or_else (frames_end frames) (waiting_end ready)))
 
   skip_spent : is_exit e ≡ false → steps ≢ budget → (rest : Option End)
-      → rest ≡ or_else (exited exit) (or_else (spent budget steps) rest)
+      → rest ≡ or_else (exit_end exit) (or_else (budget_end budget steps) rest)
   skip_spent other some rest =
       ap (λ b. or_else (if b then Some (Budget budget) else None) rest) (sym (is_not steps budget some))
-      ∙ skip_exit other (or_else (spent budget steps) rest)
+      ∙ skip_exit other (or_else (budget_end budget steps) rest)
 
   at_limit : most_frames ≤ frames → nat_le most_frames frames ≡ true
   at_limit le = grind (arith, nat_tests)
@@ -74,17 +74,17 @@ module _ (m : Seen) (given : m.given ≡ None) (e : Option End) (is : e ≡ ende
   below_limit less = grind (arith, nat_tests)
 
   pub where_full : is_exit e ≡ false → steps ≢ budget → most_frames ≤ frames → Some Frames
-      ≡ or_else (exited exit) (or_else (spent budget steps) (or_else (full frames) (nobody_ready ready)))
+      ≡ or_else (exit_end exit) (or_else (budget_end budget steps) (or_else (frames_end frames) (waiting_end ready)))
   where_full other some le =
-      ap (λ b. or_else (if b then Some Frames else None) (nobody_ready ready)) (sym (at_limit le))
-      ∙ skip_spent other some (or_else (full frames) (nobody_ready ready))
+      ap (λ b. or_else (if b then Some Frames else None) (waiting_end ready)) (sym (at_limit le))
+      ∙ skip_spent other some (or_else (frames_end frames) (waiting_end ready))
 
   pub where_open : is_exit e ≡ false → steps ≢ budget → frames < most_frames
-      → e ≡ or_else (exited exit) (or_else (spent budget steps) (or_else (full frames) (nobody_ready ready)))
+      → e ≡ or_else (exit_end exit) (or_else (budget_end budget steps) (or_else (frames_end frames) (waiting_end ready)))
   where_open other some less =
       e_is ∙ nobody exit ready (ap is_exit (sym e_is) ∙ other)
-      ∙ ap (λ b. or_else (if b then Some Frames else None) (nobody_ready ready)) (sym (below_limit less))
-      ∙ skip_spent other some (or_else (full frames) (nobody_ready ready))
+      ∙ ap (λ b. or_else (if b then Some Frames else None) (waiting_end ready)) (sym (below_limit less))
+      ∙ skip_spent other some (or_else (frames_end frames) (waiting_end ready))
 
   -- whether one of these ends stands
   some_else : (a b : Option End) → is_some b ≡ true → is_some (or_else a b) ≡ true
@@ -92,31 +92,31 @@ module _ (m : Seen) (given : m.given ≡ None) (e : Option End) (is : e ≡ ende
   some_else None b is_ = is_
 
   none_or_nobody : (o : Option ℕ) (ts : List ThreadNo)
-      → is_some (over o (first_of ts)) ≡ is_some (or_else (exited o) (nobody_ready ts))
+      → is_some (known_end o (first_of ts)) ≡ is_some (or_else (exit_end o) (waiting_end ts))
   none_or_nobody (Some code) ts = refl
   none_or_nobody None [] = refl
   none_or_nobody None (t ∷ ts) = refl
 
   pub over_spent : steps ≡ budget → true
-      ≡ is_some (or_else (exited exit) (or_else (spent budget steps) (or_else (full frames) (nobody_ready ready))))
+      ≡ is_some (or_else (exit_end exit) (or_else (budget_end budget steps) (or_else (frames_end frames) (waiting_end ready))))
   over_spent all =
-      sym (some_else (exited exit) (or_else (spent budget steps) (or_else (full frames) (nobody_ready ready)))
+      sym (some_else (exit_end exit) (or_else (budget_end budget steps) (or_else (frames_end frames) (waiting_end ready)))
       (ap (λ b. is_some (or_else (if b then Some (Budget budget) else None)
-      (or_else (full frames) (nobody_ready ready))))
+      (or_else (frames_end frames) (waiting_end ready))))
       (eq-eqb steps budget all)))
 
   pub over_full : most_frames ≤ frames → true
-      ≡ is_some (or_else (exited exit) (or_else (spent budget steps) (or_else (full frames) (nobody_ready ready))))
+      ≡ is_some (or_else (exit_end exit) (or_else (budget_end budget steps) (or_else (frames_end frames) (waiting_end ready))))
   over_full le =
-      sym (some_else (exited exit) (or_else (spent budget steps) (or_else (full frames) (nobody_ready ready)))
-      (some_else (spent budget steps) (or_else (full frames) (nobody_ready ready))
-      (ap (λ b. is_some (or_else (if b then Some Frames else None) (nobody_ready ready))) (at_limit le))))
+      sym (some_else (exit_end exit) (or_else (budget_end budget steps) (or_else (frames_end frames) (waiting_end ready)))
+      (some_else (budget_end budget steps) (or_else (frames_end frames) (waiting_end ready))
+      (ap (λ b. is_some (or_else (if b then Some Frames else None) (waiting_end ready))) (at_limit le))))
 
   pub over_else : steps ≢ budget → frames < most_frames → is_some e
-      ≡ is_some (or_else (exited exit) (or_else (spent budget steps) (or_else (full frames) (nobody_ready ready))))
+      ≡ is_some (or_else (exit_end exit) (or_else (budget_end budget steps) (or_else (frames_end frames) (waiting_end ready))))
   over_else some less =
       ap is_some e_is ∙ none_or_nobody exit ready
-      ∙ ap (λ o. is_some (or_else (exited exit) o))
-      (ap (λ b. or_else (if b then Some Frames else None) (nobody_ready ready)) (sym (below_limit less))
-      ∙ ap (λ b. or_else (if b then Some (Budget budget) else None) (or_else (full frames) (nobody_ready ready)))
+      ∙ ap (λ o. is_some (or_else (exit_end exit) o))
+      (ap (λ b. or_else (if b then Some Frames else None) (waiting_end ready)) (sym (below_limit less))
+      ∙ ap (λ b. or_else (if b then Some (Budget budget) else None) (or_else (frames_end frames) (waiting_end ready)))
       (sym (is_not steps budget some)))

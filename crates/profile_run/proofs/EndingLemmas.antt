@@ -13,26 +13,26 @@ use Rattle.event_costs.specs.declared.outcome.End.TheVariants.{Exited, Killed, U
 use Rattle.event_costs.specs.declared.outcome.End.TheVariants.{Frames, AllWaiting}
 use Rattle.cg_format.specs.declared.trigger.Trigger.{Trigger}
 use Rattle.cg_format.specs.declared.trigger.Trigger.TheVariants.{Termination}
-use Rattle.cache_lru.specs.Costs.{KeptForRun}
+use Rattle.cache_lru.specs.Costs.{RunCosts}
 use Rattle.cg_format.specs.declared.head.PartHead.{PartHead}
-use Rattle.guest_load.specs.First.{first_state}
+use Rattle.guest_load.specs.First.{guest_at_start}
 use Rattle.guest_sched.specs.Laws.{IsReached, IsTried}
-use Rattle.guest_sched.specs.Seen.{Seen, ended, next, running, running_unless, with_given}
-use Rattle.guest_sched.specs.Whole.{Whole}
+use Rattle.guest_sched.specs.Machine.{Machine, ended, next, running, running_unless, with_given}
+use Rattle.guest_sched.specs.Engine.{Engine}
 use Rattle.guest_sched.proofs.OrderLemmas.{holds_reached, tried_end}
 use Rattle.recorder.specs.Accounts.{Recording, account}
 use Rattle.recorder.specs.Laws.{IsIn}
 use Rattle.recorder.specs.Standing.{Stands}
 use Rattle.part_dump.specs.Calls.{Call, Readies, tried_calls}
 use Rattle.part_dump.specs.Cuts.{cuts}
-use Rattle.part_dump.specs.Steps.{Step, own, own_seen, stack_at}
+use Rattle.part_dump.specs.Steps.{Step, steps_of_thread, events_on_stack_of, stack_at}
 use Rattle.part_dump.specs.Watching.{Meaning, after_calls, puts}
-use Rattle.profile_run.specs.Guest.{Guest}
+use Rattle.profile_run.specs.Program.{Program}
 use Rattle.profile_run.specs.Parts.{calls_of, calls_so_far, watched_parts}
-use Rattle.profile_run.specs.Trace.{IsTraceOf, Stop, Taken, end_before, going, start, steps_of, tried_at}
+use Rattle.profile_run.specs.Trace.{IsTraceOf, Stop, RunStep, end_before, next_step, start, steps_of, tried_at}
 use Rattle.profile_run.specs.inner.Standing.{HasBegun, IsHead, IsOver, IsPutting, IsWatched, Plan}
 use Rattle.profile_run.specs.inner.Standing.{StandsAfter}
-use Rattle.profile_run.specs.inner.Standing.{all_calls, calls_below, files_after, files_at, since_of, told_of}
+use Rattle.profile_run.specs.inner.Standing.{all_calls, calls_below, files_after, files_at, since_of, machine_step_of}
 use Rattle.part_dump.proofs.StepLemmas.{own-append}
 use Rattle.recorder.proofs.ListLemmas.{in_right}
 use Rattle.profile_run.proofs.CallLemmas.{calls_whole, puts-append, tried_puts}
@@ -40,11 +40,11 @@ use Rattle.profile_run.proofs.PutLemmas.{below-all, below-next, no_calls}
 use Rattle.profile_run.proofs.PuttingLemmas.{none_left}
 use Rattle.profile_run.proofs.TraceLemmas.{going-end, going-over}
 
-pub not_over : (m : Seen) (t : ThreadNo × ℕ) → running m ≡ Some t → ended m ≡ None
+pub not_over : (m : Machine) (t : ThreadNo × ℕ) → running m ≡ Some t → ended m ≡ None
 unfolding running
-not_over m t is = by (ended m) m.whole is
+not_over m t is = by (ended m) m.engine is
   where
-    by : (o : Option End) (w : Whole) → running_unless o w ≡ Some t → o ≡ None
+    by : (o : Option End) (w : Engine) → running_unless o w ≡ Some t → o ≡ None
     by None w runs = refl
     by (Some end) w runs = absurd (cc)
 
@@ -58,20 +58,20 @@ tried_is (Budget steps) t tried = absurd tried
 tried_is Frames t tried = absurd tried
 tried_is AllWaiting t tried = absurd tried
 
-pub steps_are : (guest : Guest) (past : List Taken) (machine : Seen)
-    → IsReached (first_state guest.image guest.args guest.input) guest.options.quantum guest.options.seed
-    (map told_of past) machine
-    → machine.whole.sys.guest.steps ≡ length past
+pub steps_are : (guest : Program) (past : List RunStep) (machine : Machine)
+    → IsReached (guest_at_start guest.image guest.args guest.input) guest.options.quantum guest.options.seed
+    (map machine_step_of past) machine
+    → machine.engine.kernel.guest.steps ≡ length past
 steps_are guest past machine reached =
     let held =
-    holds_reached (first_state guest.image guest.args guest.input) guest.options.quantum guest.options.seed
-    (map told_of past) machine reached in
-    let is : machine.whole.sys.guest.steps ≡ 0 + length (map told_of past) = held.steps in
-    let many = length-map past told_of in
+    holds_reached (guest_at_start guest.image guest.args guest.input) guest.options.quantum guest.options.seed
+    (map machine_step_of past) machine reached in
+    let is : machine.engine.kernel.guest.steps ≡ 0 + length (map machine_step_of past) = held.steps in
+    let many = length-map past machine_step_of in
     omega (arith, is, many)
 
-module _ {W : Type 0} (m : Meaning W) (guest : Guest) (first : W) (past : List Taken) (machine : Seen)
-    (costs : KeptForRun) (r : Recording) (h : PartHead) (w : W) where
+module _ {W : Type 0} (m : Meaning W) (guest : Program) (first : W) (past : List RunStep) (machine : Machine)
+    (costs : RunCosts) (r : Recording) (h : PartHead) (w : W) where
   -- an end stands before a step
   pub over_before : StandsAfter m guest first past machine costs r h w → (end : End)
       → end_before guest machine past ≡ Some end
@@ -99,15 +99,15 @@ module _ {W : Type 0} (m : Meaning W) (guest : Guest) (first : W) (past : List T
 
   -- a step was tried, and ends the run
   pub over_tried : HasBegun m guest first past machine costs r w → (end : End) → next machine ≡ Err end
-      → IsHead guest h → h.part ≡ length (cuts guest.syms guest.options.asked (steps_of past)).closed + 1
+      → IsHead guest h → h.part ≡ length (cuts guest.syms guest.options.dump_points (steps_of past)).closed + 1
       → IsOver m guest first past (record { end = end; tried = tried_at end (running machine) })
       (with_given end machine) r h w
   over_tried b end is head number =
-      let first_guest = first_state guest.image guest.args guest.input in
+      let first_guest = guest_at_start guest.image guest.args guest.input in
       let held =
-      holds_reached first_guest guest.options.quantum guest.options.seed (map told_of past) machine b.after.reached in
+      holds_reached first_guest guest.options.quantum guest.options.seed (map machine_step_of past) machine b.after.reached in
       let tried =
-      tried_end first_guest (map told_of past) machine end held (not_over machine (b.thread, b.pc) b.runs) is in
+      tried_end first_guest (map machine_step_of past) machine end held (not_over machine (b.thread, b.pc) b.runs) is in
       let told : tried_calls (tried_at end (running machine)) ≡ Readies b.thread b.pc ∷ [] =
       ap (λ o. tried_calls (tried_at end o)) b.runs ∙ tried_is end (b.thread, b.pc) tried in
       record {
@@ -133,7 +133,7 @@ module _ {W : Type 0} (m : Meaning W) (guest : Guest) (first : W) (past : List T
 
 -- ---- the last parts
 
-module _ {W : Type 0} (m : Meaning W) (guest : Guest) (first : W) (past : List Taken) (stop : Stop) (machine : Seen)
+module _ {W : Type 0} (m : Meaning W) (guest : Program) (first : W) (past : List RunStep) (stop : Stop) (machine : Machine)
     (r : Recording) (h : PartHead) (w : W) (o : IsOver m guest first past stop machine r h w) (folder : Shelf)
   where
     abbrev steps : List Step
@@ -146,17 +146,17 @@ module _ {W : Type 0} (m : Meaning W) (guest : Guest) (first : W) (past : List T
       first = first;
       past = steps;
       before = calls_so_far guest steps ++ tried_calls stop.tried;
-      segment = (cuts guest.syms guest.options.asked steps).recent;
+      segment = (cuts guest.syms guest.options.dump_points steps).recent;
       folder = folder;
       put = files_at m guest first steps;
     }
 
-    none_in : (thread : ℕ) → own thread steps ≡ [] → own thread last_plan.segment ≡ []
+    none_in : (thread : ℕ) → steps_of_thread thread steps ≡ [] → steps_of_thread thread last_plan.segment ≡ []
     none_in thread none =
-        none_left (own thread o.earlier) (own thread last_plan.segment)
-        (sym (own-append thread o.earlier last_plan.segment) ∙ ap (own thread) (sym o.together) ∙ none)
+        none_left (steps_of_thread thread o.earlier) (steps_of_thread thread last_plan.segment)
+        (sym (own-append thread o.earlier last_plan.segment) ∙ ap (steps_of_thread thread) (sym o.together) ∙ none)
 
-    none_beyond : (t : ℕ) → machine.whole.sys.guest.made + 1 ≤ t → own t last_plan.segment ≡ []
+    none_beyond : (t : ℕ) → machine.engine.kernel.guest.made + 1 ≤ t → steps_of_thread t last_plan.segment ≡ []
     none_beyond t le = none_in t (o.made t (omega (arith, le)))
 
     none_first : (part : ℕ) (trigger : Trigger) → calls_below last_plan part trigger 1 ≡ []
@@ -165,15 +165,15 @@ module _ {W : Type 0} (m : Meaning W) (guest : Guest) (first : W) (past : List T
 
     -- thread 0 has no steps
     seen_since : (thread : ℕ)
-        → own_seen thread last_plan.segment ≡ own_seen thread (since_of 1 last_plan.segment thread)
+        → events_on_stack_of thread last_plan.segment ≡ events_on_stack_of thread (since_of 1 last_plan.segment thread)
     seen_since thread = by (nat_lt thread 1) refl
       where
         by : (b : Bool) → nat_lt thread 1 ≡ b
-            → own_seen thread last_plan.segment ≡ own_seen thread (if b then [] else last_plan.segment)
+            → events_on_stack_of thread last_plan.segment ≡ events_on_stack_of thread (if b then [] else last_plan.segment)
         by false is = refl
         by true is =
-            ap (map (λ (y : Step). y.seen))
-            (ap (λ n. own n last_plan.segment) (is_zero thread is) ∙ none_in 0 o.zero)
+            ap (map (λ (y : Step). y.on_stack))
+            (ap (λ n. steps_of_thread n last_plan.segment) (is_zero thread is) ∙ none_in 0 o.zero)
           where
             is_zero : (n : ℕ) → nat_lt n 1 ≡ true → n ≡ 0
             is_zero n e = grind (arith, nat_tests)
@@ -210,23 +210,23 @@ module _ {W : Type 0} (m : Meaning W) (guest : Guest) (first : W) (past : List T
         sym (append-nil (files_at m guest first steps))
         ∙ ap (λ cs. files_after m last_plan cs) (sym (none_first part trigger))
 
-    calls_are : (part : ℕ) → part ≡ length (cuts guest.syms guest.options.asked steps).closed + 1
-        → last_plan.before ++ calls_below last_plan part Termination (machine.whole.sys.guest.made + 1)
+    calls_are : (part : ℕ) → part ≡ length (cuts guest.syms guest.options.dump_points steps).closed + 1
+        → last_plan.before ++ calls_below last_plan part Termination (machine.engine.kernel.guest.made + 1)
         ≡ calls_of guest steps stop.tried
     calls_are part number =
         ap (λ cs. last_plan.before ++ cs)
-        (below-all m last_plan part Termination (machine.whole.sys.guest.made + 1) none_beyond
+        (below-all m last_plan part Termination (machine.engine.kernel.guest.made + 1) none_beyond
         ∙ ap (λ n. all_calls last_plan n Termination) number)
         ∙ sym (calls_whole guest steps stop.tried)
 
     -- all files are those of the run
-    pub files_are : (part : ℕ) → part ≡ length (cuts guest.syms guest.options.asked steps).closed + 1
-        → files_after m last_plan (calls_below last_plan part Termination (machine.whole.sys.guest.made + 1))
+    pub files_are : (part : ℕ) → part ≡ length (cuts guest.syms guest.options.dump_points steps).closed + 1
+        → files_after m last_plan (calls_below last_plan part Termination (machine.engine.kernel.guest.made + 1))
         ≡ (watched_parts m first guest).whole steps stop.tried
     files_are part number =
         let base = guest.options.base in
         let cs = calls_so_far guest steps in
-        let parts = calls_below last_plan part Termination (machine.whole.sys.guest.made + 1) in
+        let parts = calls_below last_plan part Termination (machine.engine.kernel.guest.made + 1) in
         ap (λ fs. fs ++ puts m guest.syms base (after_calls m guest.syms first last_plan.before) parts)
         (sym (puts-append m guest.syms base first cs (tried_calls stop.tried)
         ∙ ap (λ fs. files_at m guest first steps ++ fs) (tried_puts m guest.syms base
@@ -237,14 +237,14 @@ module _ {W : Type 0} (m : Meaning W) (guest : Guest) (first : W) (past : List T
 
     -- the watch was told of the whole run, which has one trace
     pub watched_all : (k : PartHead) (s : Recording) (v : W)
-        → IsPutting m last_plan (machine.whole.sys.guest.made + 1) k s v
-        → k.part ≡ length (cuts guest.syms guest.options.asked steps).closed + 1 → k.trigger ≡ Termination
-        → (trace : List Taken) (end : Stop) → IsTraceOf guest trace end
+        → IsPutting m last_plan (machine.engine.kernel.guest.made + 1) k s v
+        → k.part ≡ length (cuts guest.syms guest.options.dump_points steps).closed + 1 → k.trigger ≡ Termination
+        → (trace : List RunStep) (end : Stop) → IsTraceOf guest trace end
         → v ≡ after_calls m guest.syms first (calls_of guest (steps_of trace) end.tried)
     watched_all k s v is number trigger trace end other =
-        let same = IsTrace-same (going guest) (start guest) past trace stop end o.is other in
+        let same = IsTrace-same (next_step guest) (start guest) past trace stop end o.is other in
         is.watch.state
         ∙ ap (λ t. after_calls m guest.syms first
-        (last_plan.before ++ calls_below last_plan k.part t (machine.whole.sys.guest.made + 1))) trigger
+        (last_plan.before ++ calls_below last_plan k.part t (machine.engine.kernel.guest.made + 1))) trigger
         ∙ ap (after_calls m guest.syms first) (calls_are k.part number)
         ∙ (λ i. after_calls m guest.syms first (calls_of guest (steps_of (same.0 i)) (same.1 i).tried))

@@ -9,11 +9,11 @@ use Rattle.event_costs.specs.declared.outcome.End.{End}
 use Rattle.cg_format.specs.declared.trigger.Trigger.TheVariants.{Termination}
 use Rattle.sym_map.specs.SymbolMap.{SymbolMap}
 use Rattle.cg_format.specs.declared.head.PartHead.{PartHead}
-use Rattle.guest_sched.specs.Seen.{Seen}
+use Rattle.guest_sched.specs.Machine.{Machine}
 use Rattle.part_dump.specs.Watching.{Meaning}
-use Rattle.profile_run.specs.Guest.{Guest, Options}
+use Rattle.profile_run.specs.Program.{Program, Options}
 use Rattle.profile_run.specs.Parts.{watched_parts}
-use Rattle.profile_run.specs.Runs.{whole}
+use Rattle.profile_run.specs.Runs.{whole_output}
 use Rattle.profile_run.specs.Trace.{steps_of}
 use Rattle.profile_run.specs.inner.Standing.{Advances, ArePut, CanPut, Ending, Fails, Finished, Grows, HasPut, HasSent}
 use Rattle.profile_run.specs.inner.Standing.{IsHead}
@@ -38,7 +38,7 @@ refuses_run m job counting parts w now (Err e) f is fails =
 
 -- a run stays within its budget
 pub within : {W : Type 0} (m : Meaning W) (job : Job W) (counting : Counting) (parts : Parts) (w : W) (now : Outside)
-    → Standing m job counting parts w now → counting.machine.whole.sys.guest.steps ≤ job.guest.options.budget
+    → Standing m job counting parts w now → counting.machine.engine.kernel.guest.steps ≤ job.guest.options.budget
 within m job counting parts w now s =
     let are = steps_are job.guest s.past counting.machine s.after.after.reached in
     let few = s.after.after.few in
@@ -61,14 +61,14 @@ ends m job steps None end counting parts w now is ending = absurd (cc)
 pub goes_on : {W : Type 0} (m : Meaning W) (job : Job W) (steps : ℕ) (over : Option End) (counting : Counting)
     (parts : Parts) (w : W) (now : Outside) → over ≡ None
     → Advances {W = W} m job steps (Ok over) counting parts w now
-    → Standing m job counting parts w now × (steps ≤ counting.machine.whole.sys.guest.steps)
+    → Standing m job counting parts w now × (steps ≤ counting.machine.engine.kernel.guest.steps)
 goes_on m job steps None counting parts w now is goes = goes
 goes_on m job steps (Some given) counting parts w now is goes = absurd (cc)
 
 module _ {W : Type 0} (m : Meaning W) {fresh : W → SymbolMap → Type 0} {job : Job W} {order : Order}
     (is : IsJob fresh job order) {end : End} {old : Counting} {parts : Parts} {w : W} {now : Outside}
     (e : Ending m job end old parts w now) where
-  abbrev guest : Guest
+  abbrev guest : Program
   guest = job.guest
 
   abbrev head : PartHead
@@ -103,14 +103,14 @@ module _ {W : Type 0} (m : Meaning W) {fresh : W → SymbolMap → Type 0} {job 
       head.trigger)
       (subst (λ (o : Options). HasPut o.base (plan.put) (shelf job.old) (shelf now) parts.put.items) is.options e.put)
 
-  all_files : files_after m plan (calls_below plan head.part head.trigger (old.machine.whole.sys.guest.made + 1))
+  all_files : files_after m plan (calls_below plan head.part head.trigger (old.machine.engine.kernel.guest.made + 1))
       ≡ (watched_parts m job.first guest).whole (steps_of e.past) e.stop.tried
   all_files =
       files_are m guest job.first e.past e.stop old.machine old.recorder parts.head w e.over (shelf job.old) head.part
       e.over.number
 
   abbrev all_put : Output
-  all_put = whole (watched_parts m job.first guest) e.past e.stop
+  all_put = whole_output (watched_parts m job.first guest) e.past e.stop
 
   -- after the puts
   module _ (new : Outside) (out : new.out ≡ now.out) (err : new.err ≡ now.err) (grows : Grows now new) where
@@ -121,11 +121,11 @@ module _ {W : Type 0} (m : Meaning W) {fresh : W → SymbolMap → Type 0} {job 
     now_grows = grown job.old now new e.grows grows
 
     pub finished : (c : Counting) (p : Parts) (v : W) → c.machine ≡ old.machine
-        → ArePut m plan head.part head.trigger (old.machine.whole.sys.guest.made + 1) p c.recorder v (shelf new)
+        → ArePut m plan head.part head.trigger (old.machine.engine.kernel.guest.made + 1) p c.recorder v (shelf new)
         → Finished m job end c p v new × Grows job.old new
     finished c p v same put =
-        let steps = ap (λ (x : Seen). x.whole.sys.guest.steps) same in
-        let made = ap (λ (x : Seen). x.whole.sys.guest.made) same in
+        let steps = ap (λ (x : Machine). x.engine.kernel.guest.steps) same in
+        let made = ap (λ (x : Machine). x.engine.kernel.guest.made) same in
         let files =
         subst (λ fs. HasPut guest.options.base fs (shelf job.old) (shelf new) p.put.items) all_files put.put in (
           record {
@@ -180,7 +180,7 @@ module _ {W : Type 0} (m : Meaning W) {fresh : W → SymbolMap → Type 0} {job 
 
     pub unfinished : (fault : RunFault)
         → RefusedBy guest.options.base head.part
-        (files_after m plan (calls_below plan head.part head.trigger (old.machine.whole.sys.guest.made + 1)))
+        (files_after m plan (calls_below plan head.part head.trigger (old.machine.engine.kernel.guest.made + 1)))
         (shelf job.old) now.put_faults fault (shelf new) new.put_faults
         → Fails m job fault new × Grows job.old new
     unfinished fault refused = (

@@ -11,15 +11,15 @@ use Rattle.guest_mem.specs.Memory.{page_limit}
 use Rattle.guest_load.specs.declared.error.GuestError.{GuestError}
 use Rattle.guest_load.specs.declared.error.GuestError.TheVariants as guest
 use Rattle.guest_load.specs.Arguments.{NeedsTooMany, arguments_len, arguments_limit}
-use Rattle.guest_load.specs.First.{first_state}
+use Rattle.guest_load.specs.First.{guest_at_start}
 use Rattle.guest_load.specs.Lawful.{IsLawful}
 use Rattle.guest_load.specs.Segments.{pages_of}
-use Rattle.guest_sched.specs.Seen.{first_seen}
+use Rattle.guest_sched.specs.Machine.{new_machine}
 use Rattle.part_dump.specs.Rules.{IsRuleOf}
 use Rattle.part_dump.specs.Watching.{Meaning}
-use Rattle.profile_run.specs.Guest.{Fits, Guest, Options}
+use Rattle.profile_run.specs.Program.{Fits, Program, Options}
 use Rattle.profile_run.specs.Parts.{watched_parts}
-use Rattle.profile_run.specs.Runs.{Does, Ended, Runs}
+use Rattle.profile_run.specs.Runs.{Does, RunEnd, Runs}
 use Rattle.profile_run.specs.inner.Begun.{Stops}
 use Rattle.profile_run.specs.inner.Standing.{Grows, IsHeadOf, IsJob, Job, RunsJob, RunsToEnd, Standing}
 use Rattle.profile_run.specs.declared.counting.Counting.{Counting}
@@ -37,7 +37,7 @@ no_growth a = record { loads = refl; puts = omega arith; out = omega arith; err 
 module _ {W : Type 0} (m : Meaning W) (job : Job W) (image : Image) (syms : SymbolMap) (args : List (List ℕ))
     (input : List ℕ) (opts : Options)
     (is : job.guest ≡ record { image = image; syms = syms; args = args; input = input; options = opts }) where
-  abbrev given : Guest
+  abbrev given : Program
   given = record { image = image; syms = syms; args = args; input = input; options = opts }
 
   -- nothing was put out
@@ -59,26 +59,26 @@ module _ {W : Type 0} (m : Meaning W) (job : Job W) (image : Image) (syms : Symb
 
     pub stopped : (fault : RunFault) → Stops image args fault → RunsJob m job (Err fault) w now
     stopped (ArgsTooLong len) needs =
-        ended (ArgsTooLong len) (subst (λ (g : Guest). NeedsTooMany g.args len) (sym is) needs, refl) refl
+        ended (ArgsTooLong len) (subst (λ (g : Program). NeedsTooMany g.args len) (sym is) needs, refl) refl
     stopped GuestFull both =
         ended GuestFull (
-          subst (λ (g : Guest). arguments_len g.args ≤ arguments_limit) (sym is) both.0,
-          subst (λ (g : Guest). page_limit < pages_of g.image) (sym is) both.1,
+          subst (λ (g : Program). arguments_len g.args ≤ arguments_limit) (sym is) both.0,
+          subst (λ (g : Program). page_limit < pages_of g.image) (sym is) both.1,
           refl,
         ) refl
     stopped (OutOfMemory _) free = ended (OutOfMemory memory) (inr refl) (inr refl)
     stopped OutFault never = absurd never
     stopped (PutFault part thread) never = absurd never
 
-    pub stops : (r : Result Ended RunFault) (fault : RunFault) → IsErrAnd r (λ e. e ≡ fault) → Stops image args fault
+    pub stops : (r : Result RunEnd RunFault) (fault : RunFault) → IsErrAnd r (λ e. e ≡ fault) → Stops image args fault
         → RunsJob m job r w now
     stops (Ok run) fault same why = absurd same
     stops (Err e) fault same why = subst (λ f. RunsJob m job (Err f) w now) (sym same) (stopped fault why)
 
   -- the run begins
-  pub begins : (w : W) (now : Outside) → job.first ≡ w → job.old ≡ now → IsLawful (first_state image args input)
+  pub begins : (w : W) (now : Outside) → job.first ≡ w → job.old ≡ now → IsLawful (guest_at_start image args input)
       → (counting : Counting) (parts : Parts)
-      → counting.machine ≡ first_seen (first_state image args input) opts.quantum opts.seed
+      → counting.machine ≡ new_machine (guest_at_start image args input) opts.quantum opts.seed
       → StandForRun opts.branch opts.shapes counting.costs [] → counting.recorder.threads ≡ []
       → IsHeadOf args opts parts.head → parts.put.items ≡ [] → Standing m job counting parts w now
   begins w now untold same lawful counting parts machine costs none head unput =
@@ -87,7 +87,7 @@ module _ {W : Type 0} (m : Meaning W) (job : Job W) (image : Image) (syms : Symb
       first_stands m given job.old job.first counting parts lawful machine costs none head unput in
       subst (λ v. Standing m job counting parts v now) untold
       (subst (λ o. Standing m job counting parts job.first o) same
-      (subst (λ (g : Guest). Standing m (record { guest = g; old = job.old; first = job.first }) counting parts
+      (subst (λ (g : Program). Standing m (record { guest = g; old = job.old; first = job.first }) counting parts
       job.first job.old) (sym is) first))
 
 -- the code runs this job
@@ -95,12 +95,12 @@ pub is_job : {W : Type 0} (job : Job W) (image : Image) (args : List (List ℕ))
     → job.guest ≡ record { image = image; syms = order.syms.now; args = args; input = input; options = order.options.now }
     → (fresh : W → SymbolMap → Type 0) (w : W) → job.first ≡ w → fresh w order.syms.now
     → arguments_len args ≤ arguments_limit → pages_of image ≤ page_limit → order.options.now.budget ≤ 10 ^ 12
-    → IsSound order.syms.now → IsRuleOf order.syms.now order.options.now.asked order.rule → IsJob fresh job order
+    → IsSound order.syms.now → IsRuleOf order.syms.now order.options.now.dump_points order.rule → IsJob fresh job order
 is_job job image args input order is fresh w untold is_fresh few small long sound rule = record {
   is_fresh = subst (λ v. fresh v job.guest.syms) (sym untold)
-      (subst (fresh w) (sym (ap (λ (g : Guest). g.syms) is)) is_fresh);
-  symbols = ap (λ (g : Guest). g.syms) is;
-  options = ap (λ (g : Guest). g.options) is;
+      (subst (fresh w) (sym (ap (λ (g : Program). g.syms) is)) is_fresh);
+  symbols = ap (λ (g : Program). g.syms) is;
+  options = ap (λ (g : Program). g.options) is;
   knows = λ address. (sound.place_functions address, sound.place_files address);
   rule = rule;
   fits = subst Fits (sym is) (record { arguments = few; pages = small });
@@ -109,19 +109,19 @@ is_job job image args input order is fresh w untold is_fresh few small long soun
 
 -- a run that ended or was stopped
 pub answered : {W : Type 0} (m : Meaning W) (job : Job W) (counting : Counting) (parts : Parts) (w : W) (now : Outside)
-    (end : Result End RunFault) (run : Result Ended RunFault) → RunsToEnd m job end counting parts w now
+    (end : Result End RunFault) (run : Result RunEnd RunFault) → RunsToEnd m job end counting parts w now
     → ((last : End) → end ≡ Ok last → run ≡ Ok (record {
       end = last;
-      steps = counting.machine.whole.sys.guest.steps;
-      threads = counting.machine.whole.sys.guest.made;
+      steps = counting.machine.engine.kernel.guest.steps;
+      threads = counting.machine.engine.kernel.guest.made;
       parts = parts.put.items;
     }))
     → ((fault : RunFault) → end ≡ Err fault → run ≡ Err fault) → RunsJob m job run w now
 answered m job counting parts w now (Ok last) run done ends stops =
-    subst (λ (r : Result Ended RunFault). RunsJob m job r w now) (sym (ends last refl))
+    subst (λ (r : Result RunEnd RunFault). RunsJob m job r w now) (sym (ends last refl))
     (record { answers = done.0.whole; grows = done.1; watched = done.0.watched })
 answered m job counting parts w now (Err fault) run done ends stops =
-    subst (λ (r : Result Ended RunFault). RunsJob m job r w now) (sym (stops fault refl))
+    subst (λ (r : Result RunEnd RunFault). RunsJob m job r w now) (sym (stops fault refl))
     (record { answers = done.0; grows = done.1; watched = tt })
 
 -- ---- arguments within their limit

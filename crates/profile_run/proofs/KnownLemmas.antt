@@ -11,7 +11,7 @@ use Rattle.event_costs.specs.Order.{arc_order, place_order}
 use Rattle.sym_map.specs.SymbolMap.{SymbolMap, place_of}
 use Rattle.shadow_stack.specs.Changes.{change}
 use Rattle.shadow_stack.specs.Stacks.{Activation}
-use Rattle.shadow_stack.specs.Traces.{Seen}
+use Rattle.shadow_stack.specs.Traces.{EventOnStack}
 use Rattle.cg_format.specs.Part.{AreKnown, IsKnownArc, IsKnownLine}
 use Rattle.recorder.specs.Laws.{IsIn}
 use Rattle.recorder.specs.Rows.{arc_at, arcs, arcs_at, arcs_of, line_at, places, rows_of}
@@ -21,16 +21,16 @@ use Rattle.recorder.proofs.LineLemmas.{place_only, place_total}
 use Rattle.recorder.proofs.KnownLemmas.{AreKnownIn, IsKnownKey, pushed_known}
 use Rattle.recorder.proofs.ListLemmas.{all_of, from_append, from_flat, from_map, in_filter}
 
-module _ (syms : SymbolMap) (knows : KnowsPlaces syms) (xs : List Seen)
-    (stacks : (x : Seen) → IsIn xs x → AreKnownIn syms knows x.stack) where
+module _ (syms : SymbolMap) (knows : KnowsPlaces syms) (xs : List EventOnStack)
+    (stacks : (x : EventOnStack) → IsIn xs x → AreKnownIn syms knows x.stack) where
   line_known : (r : LineRow) → IsIn (filter is_some_line (map (line_at syms xs) (places syms xs))) r
       → IsKnownLine syms r
   line_known r there =
       let row = in_filter is_some_line (map (line_at syms xs) (places syms xs)) r there in
       let place = from_map (line_at syms xs) (places syms xs) r row.0 in
       let event =
-      from_map (λ (x : Seen). place_of syms x.event.done.pc) xs place.0
-      (rise.risen_in place_order place_total place_only (map (λ (x : Seen). place_of syms x.event.done.pc) xs)
+      from_map (λ (x : EventOnStack). place_of syms x.event.done.pc) xs place.0
+      (rise.risen_in place_order place_total place_only (map (λ (x : EventOnStack). place_of syms x.event.done.pc) xs)
       place.0 place.1) in
       let P : Place → Type 0 = λ p. IsKnownLine syms (line_at syms xs p) in
       let known : P (place_of syms event.0.event.done.pc) =

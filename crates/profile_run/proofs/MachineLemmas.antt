@@ -3,13 +3,13 @@ use Rattle.std.proofs.Common.{◌≡◌, ◌≤◌, List, [], ◌∷◌, ◌++�
 use Rattle.std.proofs.Common.{Option, None, Some, Result, Ok, Err, refl, ap, sym, subst, ◌∙◌, arith}
 use Rattle.event_costs.specs.Runs.{Run}
 use Rattle.event_costs.specs.declared.outcome.End.{End}
-use Rattle.guest_sched.specs.Seen.{Seen, next}
-use Rattle.guest_sched.specs.Step.{Told}
+use Rattle.guest_sched.specs.Machine.{Machine, next}
+use Rattle.guest_sched.specs.Step.{MachineStep}
 use Rattle.part_dump.specs.Steps.{live}
-use Rattle.profile_run.specs.Guest.{Guest, first_machine}
+use Rattle.profile_run.specs.Program.{Program, first_machine}
 use Rattle.profile_run.specs.Steps.{AreOfMachine, AreTold}
-use Rattle.profile_run.specs.Trace.{Makes, Position, Taken, end_before, exited, full, going, nobody_ready, or_else}
-use Rattle.profile_run.specs.Trace.{spent, steps_of, taken}
+use Rattle.profile_run.specs.Trace.{Makes, Position, RunStep, end_before, exit_end, frames_end, next_step, waiting_end, or_else}
+use Rattle.profile_run.specs.Trace.{budget_end, steps_of, run_step}
 use Rattle.part_dump.proofs.StepLemmas.{length-push}
 use Rattle.profile_run.proofs.BeginLemmas.{or_none, some_room, spare}
 use Rattle.profile_run.proofs.TraceLemmas.{going-end, going-over, going-step}
@@ -20,25 +20,25 @@ same_Ok a b e = cc
 not_both : {A E : Type 0} (a : A) (e : E) → ◌≡◌ {A = Result A E} (Err e) (Ok a) → ⊥
 not_both a e is = cc
 
-module _ (guest : Guest) where
+module _ (guest : Program) where
   -- what a step of a run says
-  pub record Goes (p : Position) (x : Taken) (q : Position) : Type 0 where
-    pub told : Told
-    pub machine : Seen
+  pub record Goes (p : Position) (x : RunStep) (q : Position) : Type 0 where
+    pub told : MachineStep
+    pub machine : Machine
     pub none : end_before guest p.0 p.1 ≡ None
     pub makes : next p.0 ≡ Ok (told, machine)
-    pub is : x ≡ taken guest p.1 told
+    pub is : x ≡ run_step guest p.1 told
     pub after : q ≡ (machine, p.1 ++ x ∷ [])
 
-  pub goes_is : (p : Position) (x : Taken) (q : Position) → going guest p ≡ Ok (x, q) → Goes p x q
+  pub goes_is : (p : Position) (x : RunStep) (q : Position) → next_step guest p ≡ Ok (x, q) → Goes p x q
   goes_is p x q g = by (end_before guest p.0 p.1) refl (next p.0) refl
     where
-      by : (o : Option End) → end_before guest p.0 p.1 ≡ o → (r : Result (Told × Seen) End) → next p.0 ≡ r → Goes p x q
+      by : (o : Option End) → end_before guest p.0 p.1 ≡ o → (r : Result (MachineStep × Machine) End) → next p.0 ≡ r → Goes p x q
       by (Some end) over r made = absurd (not_both (x, q) _ (sym (going-over guest p end over) ∙ g))
       by None none (Err end) made = absurd (not_both (x, q) _ (sym (going-end guest p end none made) ∙ g))
       by None none (Ok made) makes =
           let same = same_Ok _ _ (sym (going-step guest p made.0 made.1 none makes) ∙ g) in
-          let step : taken guest p.1 made.0 ≡ x = ap (λ (r : Taken × Position). r.0) same in
+          let step : run_step guest p.1 made.0 ≡ x = ap (λ (r : RunStep × Position). r.0) same in
           record {
             told = made.0;
             machine = made.1;
@@ -46,36 +46,36 @@ module _ (guest : Guest) where
             makes = makes;
             is = sym step;
             after =
-                sym (ap (λ (r : Taken × Position). r.1) same)
-                ∙ ap (λ (y : Taken). (made.1, p.1 ++ y ∷ [])) step;
+                sym (ap (λ (r : RunStep × Position). r.1) same)
+                ∙ ap (λ (y : RunStep). (made.1, p.1 ++ y ∷ [])) step;
           }
 
   -- from a position on
-  pub record From (before : List Taken) (m : Seen) (xs : List Taken) : Type 0 where
-    pub tolds : List Told
-    pub last : Seen
+  pub record From (before : List RunStep) (m : Machine) (xs : List RunStep) : Type 0 where
+    pub tolds : List MachineStep
+    pub last : Machine
     pub run : Run next m tolds last
     pub are : AreTold guest before tolds xs
 
-  pub from : (before : List Taken) (m : Seen) (xs : List Taken) (q : Position)
-      → length before ≤ guest.options.budget → Run (going guest) (m, before) xs q → From before m xs
+  pub from : (before : List RunStep) (m : Machine) (xs : List RunStep) (q : Position)
+      → length before ≤ guest.options.budget → Run (next_step guest) (m, before) xs q → From before m xs
   from before m [] q few run = record { tolds = []; last = m; run = refl; are = tt }
   from before m (x ∷ xs) q few run =
       let g = goes_is (m, before) x run.0 run.1 in
       let two =
-      or_none (exited m.whole.exit)
-      (or_else (spent guest.options.budget (length before))
-      (or_else (full (live guest.syms (steps_of before))) (nobody_ready m.whole.line.ready))) g.none in
+      or_none (exit_end m.engine.exit)
+      (or_else (budget_end guest.options.budget (length before))
+      (or_else (frames_end (live guest.syms (steps_of before))) (waiting_end m.engine.run_queue.ready))) g.none in
       let three =
-      or_none (spent guest.options.budget (length before))
-      (or_else (full (live guest.syms (steps_of before))) (nobody_ready m.whole.line.ready)) two.1 in
+      or_none (budget_end guest.options.budget (length before))
+      (or_else (frames_end (live guest.syms (steps_of before))) (waiting_end m.engine.run_queue.ready)) two.1 in
       let four =
-      or_none (full (live guest.syms (steps_of before))) (nobody_ready m.whole.line.ready) three.1 in
+      or_none (frames_end (live guest.syms (steps_of before))) (waiting_end m.engine.run_queue.ready) three.1 in
       let less = spare guest.options.budget (length before) three.0 few in
       let more = length-push before x in
       let rest =
       from (before ++ x ∷ []) g.machine xs q (omega (arith, less, more))
-      (subst (λ p. Run (going guest) p xs q) g.after run.2) in
+      (subst (λ p. Run (next_step guest) p xs q) g.after run.2) in
       record {
         tolds = g.told ∷ rest.tolds;
         last = rest.last;
@@ -86,7 +86,7 @@ module _ (guest : Guest) where
         );
       }
 
-  pub of_machine : (past : List Taken) → Makes guest past → AreOfMachine guest past
+  pub of_machine : (past : List RunStep) → Makes guest past → AreOfMachine guest past
   of_machine past makes =
       let all = from [] (first_machine guest) past makes.last (omega arith) makes.run in
       record { tolds = all.tolds; last = all.last; run = all.run; are = all.are }

@@ -5,11 +5,11 @@ use Rattle.std.proofs.Common.{arith}
 use Rattle.std.proofs.lemmas.List.{append-nil, length-take-le, take-append-drop}
 use Rattle.std.proofs.lemmas.List.Concat.{flat_map-append}
 use Rattle.outside.specs.Outside.{Outside, Stream}
-use Rattle.outside.specs.Told.{AreWritten, TellsWrites, Wrote}
+use Rattle.outside.specs.Journal.{AreWritten, TellsWrites, Wrote}
 use Rattle.outside.specs.Write.{taken_more}
 use Rattle.outside.specs.declared.sink.WriteError.{WriteError}
-use Rattle.outside.proofs.ToldLemmas.{tells_nothing_more, tells_then}
-use Rattle.profile_run.specs.Trace.{Taken, piece_to, pieces}
+use Rattle.outside.proofs.JournalLemmas.{tells_nothing_more, tells_then}
+use Rattle.profile_run.specs.Trace.{RunStep, piece_to, pieces}
 use Rattle.profile_run.specs.inner.Standing.{HasSent, HasWritten, SendsAll, TakesFront}
 
 pub nothing_more : (t : Option (List ℕ)) → t ≡ taken_more t []
@@ -35,10 +35,10 @@ wrote_on xs ys a b c first next = (
   tells_then a.writes b.writes c.writes first.0 next.0 first.2 next.2,
 )
 
-pub pieces-push : (descriptor : ℕ) (xs : List Taken) (x : Taken)
+pub pieces-push : (descriptor : ℕ) (xs : List RunStep) (x : RunStep)
     → pieces descriptor (xs ++ x ∷ []) ≡ pieces descriptor xs ++ piece_to descriptor x.output
 pieces-push descriptor xs x =
-    flat_map-append (λ (y : Taken). piece_to descriptor y.output) xs (x ∷ [])
+    flat_map-append (λ (y : RunStep). piece_to descriptor y.output) xs (x ∷ [])
     ∙ ap (λ ps. pieces descriptor xs ++ ps) (append-nil (piece_to descriptor x.output))
 
 -- a step without output
@@ -66,7 +66,7 @@ taken_front error bytes old new t told = record {
 }
 
 -- sinks to which nothing was written since
-pub still_sent : (past : List Taken) (old now new : Outside) → new.out ≡ now.out → new.err ≡ now.err
+pub still_sent : (past : List RunStep) (old now new : Outside) → new.out ≡ now.out → new.err ≡ now.err
     → HasSent past old now → HasSent past old new
 still_sent past old now new out err sent = record {
   out = ap (λ (s : Stream). s.taken) out ∙ sent.out;

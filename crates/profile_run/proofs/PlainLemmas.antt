@@ -9,21 +9,21 @@ use Rattle.part_dump.specs.Plain.{Stateless, plain}
 use Rattle.part_dump.specs.Steps.{Step}
 use Rattle.part_dump.specs.Watching.{after_calls, puts}
 use Rattle.part_dump.proofs.FileLemmas.{closed_puts, plain_files, puts_all}
-use Rattle.profile_run.specs.Guest.{Guest, head_of_run}
+use Rattle.profile_run.specs.Program.{Program, head_of_run}
 use Rattle.profile_run.specs.Parts.{Writing, plain_parts, watched_parts}
 use Rattle.recorder.specs.Rows.{rows_of}
-use Rattle.profile_run.specs.Runs.{Answers, Ended}
+use Rattle.profile_run.specs.Runs.{Answers, RunEnd}
 use Rattle.profile_run.specs.declared.run_fault.RunFault.{RunFault}
 use Rattle.profile_run.proofs.CallLemmas.{no_puts, puts-append}
 
-module _ (guest : Guest) (w : Stateless) where
+module _ (guest : Program) (w : Stateless) where
   abbrev base : List ℕ
   base = guest.options.base
 
   at_cuts_are : (steps : List Step) → (watched_parts plain w guest).at_cuts steps ≡ (plain_parts guest).at_cuts steps
   at_cuts_are steps =
-      let closed = (cuts guest.syms guest.options.asked steps).closed in
-      let recent = (cuts guest.syms guest.options.asked steps).recent in
+      let closed = (cuts guest.syms guest.options.dump_points steps).closed in
+      let recent = (cuts guest.syms guest.options.dump_points steps).recent in
       let cs = closed_calls (rows_of guest.syms) (head_of_run guest) closed in
       puts-append plain guest.syms base w cs (steps_calls recent)
       ∙ ap (λ fs. puts plain guest.syms base w cs ++ fs)
@@ -35,7 +35,7 @@ module _ (guest : Guest) (w : Stateless) where
   whole_is : (steps : List Step) (tried : Option (ThreadNo × ℕ))
       → (watched_parts plain w guest).whole steps tried ≡ (plain_parts guest).whole steps tried
   whole_is steps tried =
-      plain_files (rows_of guest.syms) (head_of_run guest) guest.syms base w guest.options.asked steps tried
+      plain_files (rows_of guest.syms) (head_of_run guest) guest.syms base w guest.options.dump_points steps tried
 
   pub same_parts : watched_parts plain w guest ≡ plain_parts guest
   same_parts = λ i. record {
@@ -44,7 +44,7 @@ module _ (guest : Guest) (w : Stateless) where
   }
 
   -- what a run answers whose watch has no state
-  pub plain_answers : (old new : Outside) (answer : Result Ended RunFault)
+  pub plain_answers : (old new : Outside) (answer : Result RunEnd RunFault)
       → Answers (watched_parts plain w guest) guest old answer new → Answers (plain_parts guest) guest old answer new
   plain_answers old new answer answers =
       subst (λ (parts : Writing). Answers parts guest old answer new) same_parts answers

@@ -8,17 +8,17 @@ use Rattle.std.proofs.lemmas.List.{append-nil, map-append}
 use Rattle.std.proofs.lemmas.List.Concat.{flat_map-append}
 use Rattle.outside.specs.Files.{Files, with_file}
 use Rattle.outside.specs.Outside.{Named, Shelf, puts_of, with_files}
-use Rattle.outside.specs.Told.{Call as ToldCall, Put, TellsMore}
-use Rattle.outside.proofs.ToldLemmas.{tells_then}
+use Rattle.outside.specs.Journal.{Call as ToldCall, Put, TellsMore}
+use Rattle.outside.proofs.JournalLemmas.{tells_then}
 use Rattle.cg_format.specs.declared.trigger.Trigger.{Trigger}
 use Rattle.cg_format.specs.Rows.{below}
 use Rattle.part_dump.specs.Calls.{Call, thread_calls}
-use Rattle.part_dump.specs.Files.{IsNext, Refused, part_name}
-use Rattle.part_dump.specs.Steps.{Step, greatest, own, own_seen}
+use Rattle.part_dump.specs.Files.{IsNext, RefusalLeaves, part_name}
+use Rattle.part_dump.specs.Steps.{Step, greatest, steps_of_thread, events_on_stack_of}
 use Rattle.part_dump.specs.Watching.{Meaning, after_calls, puts}
 use Rattle.part_dump.proofs.LiveLemmas.{above_greatest}
 use Rattle.profile_run.specs.Runs.{AreUnput}
-use Rattle.profile_run.specs.Guest.{head_of_run}
+use Rattle.profile_run.specs.Program.{head_of_run}
 use Rattle.profile_run.specs.Parts.{ArePartsOf}
 use Rattle.recorder.specs.Rows.{rows_of}
 use Rattle.profile_run.specs.inner.Standing.{Plan, PutWants, RefusedBy, all_calls, calls_below, files_after}
@@ -56,7 +56,7 @@ unput_on (file ∷ files) more calls are = are
 
 -- memory was wanting before the next put
 pub wants_nothing : (all : List Named) (name : Option (List ℕ)) (old new : Shelf)
-    → (refused : Refused all name old.files new.files) → TellsMore old.calls (puts_of refused.done) new.calls
+    → (refused : RefusalLeaves all name old.files new.files) → TellsMore old.calls (puts_of refused.done) new.calls
     → PutWants all old new
 wants_nothing all name old new refused told = record {
   name = name;
@@ -92,7 +92,7 @@ next_more (Some name) [] more next = absurd next
 next_more (Some name) (f ∷ fs) more next = next
 
 abbrev pub refused_more : (files more : List Named) (name : Option (List ℕ)) (old new : Option Files)
-    → Refused files name old new → Refused (files ++ more) name old new
+    → RefusalLeaves files name old new → RefusalLeaves (files ++ more) name old new
 refused_more files more name old new r = record {
   done = r.done;
   front = record {
@@ -135,7 +135,7 @@ module _ {W : Type 0} (m : Meaning W) (plan : Plan W) (part : ℕ) (trigger : Tr
   abbrev calls_at : ℕ → List Call
   calls_at thread =
       thread_calls (rows_of plan.guest.syms) (head_of_run plan.guest) part trigger thread
-      (own_seen thread plan.segment)
+      (events_on_stack_of thread plan.segment)
 
   pub below-next : (n : ℕ) → calls_below plan part trigger (n + 1) ≡ calls_below plan part trigger n ++ calls_at n
   below-next n =
@@ -147,12 +147,12 @@ module _ {W : Type 0} (m : Meaning W) (plan : Plan W) (part : ℕ) (trigger : Tr
       next k = omega arith
 
   -- a thread without steps since the last cut has no part
-  pub no_calls : (n : ℕ) → own n plan.segment ≡ [] → calls_at n ≡ []
+  pub no_calls : (n : ℕ) → steps_of_thread n plan.segment ≡ [] → calls_at n ≡ []
   no_calls n none =
       ap (λ ys. thread_calls (rows_of plan.guest.syms) (head_of_run plan.guest) part trigger n
-      (map (λ (y : Step). y.seen) ys)) none
+      (map (λ (y : Step). y.on_stack) ys)) none
 
-  below-more : (n k : ℕ) → ((t : ℕ) → n ≤ t → own t plan.segment ≡ [])
+  below-more : (n k : ℕ) → ((t : ℕ) → n ≤ t → steps_of_thread t plan.segment ≡ [])
       → calls_below plan part trigger (n + k) ≡ calls_below plan part trigger n
   below-more n zero none = ap (λ j. calls_below plan part trigger j) (same n)
     where
@@ -167,7 +167,7 @@ module _ {W : Type 0} (m : Meaning W) (plan : Plan W) (part : ℕ) (trigger : Tr
       more i j = omega arith
 
   -- up to a number past that of all threads they are those of the segment's parts
-  pub below-all : (n : ℕ) → ((t : ℕ) → n ≤ t → own t plan.segment ≡ [])
+  pub below-all : (n : ℕ) → ((t : ℕ) → n ≤ t → steps_of_thread t plan.segment ≡ [])
       → calls_below plan part trigger n ≡ all_calls plan part trigger
   below-all n none =
       let g = greatest plan.segment + 1 in

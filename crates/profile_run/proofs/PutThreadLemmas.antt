@@ -7,34 +7,34 @@ use Rattle.std.specs.Prelude.{IfErr, OnOk, ◌^◌, min, ◌==◌}
 use Rattle.std.specs.Result.{IsErrAnd}
 use Rattle.outside.specs.Files.{Rose, SameBut, with_file}
 use Rattle.outside.specs.Outside.{Named, Shelf, puts_of, with_files}
-use Rattle.outside.specs.Told.{Call as ToldCall, Put, TellsMore}
+use Rattle.outside.specs.Journal.{Call as ToldCall, Put, TellsMore}
 use Rattle.outside.specs.declared.folder.PutError.TheVariants as put
-use Rattle.outside.proofs.ToldLemmas.{tells_then}
+use Rattle.outside.proofs.JournalLemmas.{tells_then}
 use Rattle.event_costs.specs.declared.numbers.ThreadNo.{ThreadNo}
 use Rattle.cg_format.specs.declared.trigger.Trigger.{Trigger}
 use Rattle.event_costs.specs.declared.event.Event.{Event}
 use Rattle.arc_costs.specs.Contents.{Listed}
 use Rattle.sym_map.specs.SymbolMap.{SymbolMap}
 use Rattle.shadow_stack.specs.Stacks.{Stack}
-use Rattle.shadow_stack.specs.Traces.{Seen}
+use Rattle.shadow_stack.specs.Traces.{EventOnStack}
 use Rattle.cg_format.specs.Part.{AreKnown}
 use Rattle.cg_format.specs.declared.head.PartHead.{PartHead}
 use Rattle.part_dump.specs.Calls.{Call, Writes, head_of, thread_calls}
 use Rattle.part_dump.specs.Dumps.{IsUnput}
-use Rattle.part_dump.specs.Files.{Refused, part_name}
-use Rattle.part_dump.specs.Steps.{Step, own, own_seen, stack_at, thread_of}
-use Rattle.part_dump.specs.Watched.{Watched}
+use Rattle.part_dump.specs.Files.{RefusalLeaves, part_name}
+use Rattle.part_dump.specs.Steps.{Step, steps_of_thread, events_on_stack_of, stack_at, thread_of}
+use Rattle.part_dump.specs.Watched.{AreWatched}
 use Rattle.part_dump.specs.Watching.{Can, Meaning, after_calls, puts}
-use Rattle.recorder.specs.Accounts.{Recording, account, kept, knows}
+use Rattle.recorder.specs.Accounts.{Recording, account, ledger, knows}
 use Rattle.recorder.specs.Bounds.{SumsWithin}
-use Rattle.recorder.specs.Notes.{cut_off}
+use Rattle.recorder.specs.Notes.{account_after_cut}
 use Rattle.recorder.specs.Standing.{AreRowsOf, Stands}
 use Rattle.recorder.specs.Rows.{rows_of}
 use Rattle.recorder.specs.inner.Known.{KnowsPlaces}
 use Rattle.recorder.proofs.AllRowLemmas.{AreWhole, rows_are}
 use Rattle.recorder.proofs.KnownLemmas.{AreKnownIn, stack_known}
 use Rattle.recorder.proofs.ListLemmas.{from_map, in_filter}
-use Rattle.profile_run.specs.Guest.{Options, head_of_run}
+use Rattle.profile_run.specs.Program.{Options, head_of_run}
 use Rattle.profile_run.specs.inner.Standing.{ArePut, CanPut, HasPut, IsPutting, Plan, PutFails, PutWants, PutsThreads}
 use Rattle.profile_run.specs.inner.Standing.{RefusedBy}
 use Rattle.profile_run.specs.inner.Standing.{calls_below}
@@ -56,19 +56,19 @@ on_ok (Err fault) b = tt
 
 -- what a recorder leaves once a thread's rows were taken
 pub record Takes (r s : Recording) (t : ThreadNo) (rows : Listed) : Type 0 where
-  pub stands : (syms : SymbolMap) (st : Stack) (since : List Seen) → Stands syms st since (account r t)
+  pub stands : (syms : SymbolMap) (st : Stack) (since : List EventOnStack) → Stands syms st since (account r t)
       → AreRowsOf syms since rows
   pub whole : AreWhole rows
-  pub own : account s t ≡ cut_off (account r t)
+  pub own : account s t ≡ account_after_cut (account r t)
   pub bounds : (steps : ℕ) → SumsWithin steps (account r t) → SumsWithin steps (account s t)
-  pub others : (other : ThreadNo) → other.0 ≢ t.0 → kept s other ≡ kept r other
+  pub others : (other : ThreadNo) → other.0 ≢ t.0 → ledger s other ≡ ledger r other
   pub known : (other : ThreadNo) → knows s other ≡ knows r other
 
 module _ {W : Type 0} (m : Meaning W) (plan : Plan W) (h : PartHead) (r : Recording) (w : W) (t : ThreadNo)
     (is : IsPutting m plan t.0 h r w) where
   abbrev calls_at : List Call
   calls_at =
-      thread_calls (rows_of plan.guest.syms) (head_of_run plan.guest) h.part h.trigger t.0 (own_seen t.0 plan.segment)
+      thread_calls (rows_of plan.guest.syms) (head_of_run plan.guest) h.part h.trigger t.0 (events_on_stack_of t.0 plan.segment)
 
   abbrev before : List Call
   before = calls_below plan h.part h.trigger t.0
@@ -80,7 +80,7 @@ module _ {W : Type 0} (m : Meaning W) (plan : Plan W) (h : PartHead) (r : Record
   the_head = head_of (head_of_run plan.guest) h.part h.trigger t.0
 
   abbrev the_rows : Listed
-  the_rows = rows_of plan.guest.syms (own_seen t.0 plan.segment)
+  the_rows = rows_of plan.guest.syms (events_on_stack_of t.0 plan.segment)
 
   state : w ≡ after_calls m plan.guest.syms plan.first (plan.before ++ before)
   state = is.watch.state
@@ -132,7 +132,7 @@ module _ {W : Type 0} (m : Meaning W) (plan : Plan W) (h : PartHead) (r : Record
       }
 
   module _ (some : (account r t).had_event ≡ true) where
-    own_some : own t.0 plan.segment ≢ []
+    own_some : steps_of_thread t.0 plan.segment ≢ []
     own_some = putting.some_there m plan t.0 h r w is t refl some
 
     known : knows r t ≡ true
@@ -156,7 +156,7 @@ module _ {W : Type 0} (m : Meaning W) (plan : Plan W) (h : PartHead) (r : Record
     abbrev pub refused : (items : List PartFile) (now new : Shelf)
         → HasPut plan.guest.options.base (files_after m plan before) plan.folder now items
         → SameBut (part_name plan.guest.options.base h.part t.0) now.files new.files
-        → Refused (files_after m plan after) (Some (part_name plan.guest.options.base h.part t.0)) plan.folder.files
+        → RefusalLeaves (files_after m plan after) (Some (part_name plan.guest.options.base h.part t.0)) plan.folder.files
         new.files
     refused items now new put same = record {
       done = files_after m plan before;
@@ -172,24 +172,24 @@ module _ {W : Type 0} (m : Meaning W) (plan : Plan W) (h : PartHead) (r : Record
       -- the rows are of the map
       are_known : AreKnown plan.guest.syms the_rows
       are_known =
-          rows_known plan.guest.syms places (own_seen t.0 plan.segment)
+          rows_known plan.guest.syms places (events_on_stack_of t.0 plan.segment)
           (λ x there.
-          (let y = from_map (λ (z : Step). z.seen) (own t.0 plan.segment) x there in
+          (let y = from_map (λ (z : Step). z.on_stack) (steps_of_thread t.0 plan.segment) x there in
           let within = in_filter (λ (z : Step). thread_of z == t.0) plan.segment y.0 y.1 in
           let has = is.stacks y.0 within.0 in
           subst (λ s. AreKnownIn plan.guest.syms places s)
-          (sym (ap (λ (z : Seen). z.stack) (sym y.2) ∙ has.2))
+          (sym (ap (λ (z : EventOnStack). z.stack) (sym y.2) ∙ has.2))
           (stack_known plan.guest.syms places has.0 has.1)))
 
       module _ (s : Recording) (rows : Listed) (taken : Takes r s t rows) where
         rows_same : rows ≡ the_rows
         rows_same =
             let has = is.known t known in
-            rows_are plan.guest.syms (own_seen t.0 plan.segment) rows
+            rows_are plan.guest.syms (events_on_stack_of t.0 plan.segment) rows
             (taken.stands plan.guest.syms (stack_at plan.guest.syms plan.past t.0 has.first)
-            (own_seen t.0 plan.segment)
+            (events_on_stack_of t.0 plan.segment)
             (subst (λ ss. Stands plan.guest.syms (stack_at plan.guest.syms plan.past t.0 has.first)
-            (own_seen t.0 ss) (account r t))
+            (events_on_stack_of t.0 ss) (account r t))
             (putting.since_now t.0 plan.segment) has.stands))
             taken.whole
 
@@ -245,7 +245,7 @@ module _ {W : Type 0} (m : Meaning W) (plan : Plan W) (h : PartHead) (r : Record
         pub can_write : (see : W → Event → List ℕ → Option ℕ → List ThreadNo → SymbolMap → Type 0)
             (write : W → PartHead → Listed → SymbolMap → Type 0) (fresh : W → SymbolMap → Type 0)
             → ((syms : SymbolMap) (f : W) (calls : List Call) (call : Call) → fresh f syms
-            → Watched syms (calls ++ call ∷ []) → Can see write syms (after_calls m syms f calls) call)
+            → AreWatched syms (calls ++ call ∷ []) → Can see write syms (after_calls m syms f calls) call)
             → fresh plan.first plan.guest.syms → write w (head_of h h.part h.trigger t.0) rows plan.guest.syms
         can_write see write fresh lasts is_fresh =
             let told : write (after_calls m plan.guest.syms plan.first (plan.before ++ before)) the_head the_rows
@@ -360,13 +360,13 @@ module _ {W : Type 0} (m : Meaning W) (plan : Plan W) (p : ℕ) (u : Trigger) wh
       let next =
       puts m plan.guest.syms plan.guest.options.base
       (after_calls m plan.guest.syms plan.first (plan.before ++ calls_below plan p u (n + k)))
-      (thread_calls (rows_of plan.guest.syms) (head_of_run plan.guest) p u (n + k) (own_seen (n + k) plan.segment)) in (
+      (thread_calls (rows_of plan.guest.syms) (head_of_run plan.guest) p u (n + k) (events_on_stack_of (n + k) plan.segment)) in (
         rest.0 ++ next,
         ap (λ j. files_after m plan (calls_below plan p u j)) (one_more n k)
             ∙ ap (files_after m plan) (below-next m plan p u (n + k))
             ∙ files-append m plan p u (calls_below plan p u (n + k))
             (thread_calls (rows_of plan.guest.syms) (head_of_run plan.guest) p u (n + k)
-            (own_seen (n + k) plan.segment))
+            (events_on_stack_of (n + k) plan.segment))
             ∙ ap (λ fs. fs ++ next) rest.1
             ∙ append_assoc (files_after m plan (calls_below plan p u n)) rest.0 next,
       )
@@ -420,7 +420,7 @@ module _ {W : Type 0} (m : Meaning W) (plan : Plan W) (r : Recording) (w : W) wh
   abbrev AreQuiet : ℕ → ℕ → Type 0
   AreQuiet n k = AreQuietIn r n k
 
-  quiet_there : (k n : ℕ) (h : PartHead) → AreQuiet n (suc k) → IsPutting m plan n h r w → own n plan.segment ≡ []
+  quiet_there : (k n : ℕ) (h : PartHead) → AreQuiet n (suc k) → IsPutting m plan n h r w → steps_of_thread n plan.segment ≡ []
   quiet_there k n h quiet is =
       putting.none_there m plan n h r w is (record { 0 = n }) refl
       (quiet (record { 0 = n }) (omega arith) (omega arith))

@@ -6,21 +6,21 @@ use Rattle.std.proofs.Common.{if◌then◌else◌}
 use Rattle.std.proofs.lemmas.Bool.Decides.{eqb_tells, nat_tests}
 use Rattle.std.proofs.lemmas.List.{append-nil}
 use Rattle.event_costs.specs.declared.numbers.ThreadNo.{ThreadNo}
-use Rattle.shadow_stack.specs.Traces.{Seen}
+use Rattle.shadow_stack.specs.Traces.{EventOnStack}
 use Rattle.arc_costs.specs.Contents.{Listed}
 use Rattle.cg_format.specs.Part.{AreKnown}
 use Rattle.cg_format.specs.declared.head.PartHead.{PartHead}
-use Rattle.recorder.specs.Accounts.{Account, Recording, account, kept, knows}
+use Rattle.recorder.specs.Accounts.{Account, Recording, account, ledger, knows}
 use Rattle.recorder.specs.Bounds.{SumsWithin}
-use Rattle.recorder.specs.Notes.{cut_off}
+use Rattle.recorder.specs.Notes.{account_after_cut}
 use Rattle.recorder.specs.Standing.{Stands, has_some}
-use Rattle.recorder.proofs.RecordingLemmas.{kept_unknown, same_thread}
+use Rattle.recorder.proofs.RecordingLemmas.{ledger_unknown, same_thread}
 use Rattle.recorder.proofs.StandingLemmas.{stands_cut}
 use Rattle.part_dump.specs.Calls.{Writes, head_of, thread_calls}
-use Rattle.part_dump.specs.Steps.{Step, own, own_seen, stack_at}
-use Rattle.part_dump.specs.Watched.{Fits, Watched, steps_in}
+use Rattle.part_dump.specs.Steps.{Step, steps_of_thread, events_on_stack_of, stack_at}
+use Rattle.part_dump.specs.Watched.{Fits, AreWatched, steps_in}
 use Rattle.part_dump.specs.Watching.{Meaning, after_call}
-use Rattle.profile_run.specs.Guest.{head_of_run}
+use Rattle.profile_run.specs.Program.{head_of_run}
 use Rattle.recorder.specs.Rows.{rows_of}
 use Rattle.profile_run.specs.inner.Standing.{HasAccount, IsHead, IsPutting, IsWatched, Plan, calls_below, since_of}
 use Rattle.part_dump.proofs.StepLemmas.{own-append}
@@ -60,26 +60,26 @@ module _ {W : Type 0} (m : Meaning W) (plan : Plan W) (n : ℕ) (h : PartHead) (
   was_known true e = inl e
   was_known false e = inr e
 
-  own_unknown : knows r t ≡ false → own n plan.segment ≡ []
+  own_unknown : knows r t ≡ false → steps_of_thread n plan.segment ≡ []
   own_unknown none =
-      none_left (own n is.earlier) (own n plan.segment)
-      (sym (own-append n is.earlier plan.segment) ∙ ap (own n) (sym is.together)
-      ∙ ap (λ k. own k plan.past) (sym number) ∙ is.unknown t none)
+      none_left (steps_of_thread n is.earlier) (steps_of_thread n plan.segment)
+      (sym (own-append n is.earlier plan.segment) ∙ ap (steps_of_thread n) (sym is.together)
+      ∙ ap (λ k. steps_of_thread k plan.past) (sym number) ∙ is.unknown t none)
 
   -- whether the thread has steps in the segment
-  some_of : (ys : List Step) → has_some (map (λ (y : Step). y.seen) ys) ≡ false → ys ≡ []
+  some_of : (ys : List Step) → has_some (map (λ (y : Step). y.on_stack) ys) ≡ false → ys ≡ []
   some_of [] e = refl
   some_of (y ∷ ys) e = absurd (true_false e)
 
-  own_has : (known : knows r t ≡ true) → (account r t).had_event ≡ has_some (own_seen n plan.segment)
+  own_has : (known : knows r t ≡ true) → (account r t).had_event ≡ has_some (events_on_stack_of n plan.segment)
   own_has known =
       (is.known t known).stands.had_event
-      ∙ (λ i. has_some (own_seen (number i) (since_of n plan.segment (number i))))
-      ∙ ap (λ xs. has_some (own_seen n xs)) (since_now n plan.segment)
+      ∙ (λ i. has_some (events_on_stack_of (number i) (since_of n plan.segment (number i))))
+      ∙ ap (λ xs. has_some (events_on_stack_of n xs)) (since_now n plan.segment)
 
-  pub none_there : (account r t).had_event ≡ false → own n plan.segment ≡ []
-  none_there none = elim (was_known (knows r t) refl) as (λ _. own n plan.segment ≡ []) [
-    | inl known ↦ some_of (own n plan.segment) (sym (own_has known) ∙ none)
+  pub none_there : (account r t).had_event ≡ false → steps_of_thread n plan.segment ≡ []
+  none_there none = elim (was_known (knows r t) refl) as (λ _. steps_of_thread n plan.segment ≡ []) [
+    | inl known ↦ some_of (steps_of_thread n plan.segment) (sym (own_has known) ∙ none)
     | inr unknown ↦ own_unknown unknown
   ]
 
@@ -87,13 +87,13 @@ module _ {W : Type 0} (m : Meaning W) (plan : Plan W) (n : ℕ) (h : PartHead) (
   known_there some = elim (was_known (knows r t) refl) as (λ _. knows r t ≡ true) [
     | inl known ↦ known
     | inr unknown ↦
-        absurd (true_false (sym some ∙ ap (λ k. k.account.had_event) (kept_unknown r t unknown)))
+        absurd (true_false (sym some ∙ ap (λ k. k.account.had_event) (ledger_unknown r t unknown)))
   ]
 
-  pub some_there : (account r t).had_event ≡ true → own n plan.segment ≢ []
+  pub some_there : (account r t).had_event ≡ true → steps_of_thread n plan.segment ≢ []
   some_there some none =
       true_false (sym some ∙ own_has (known_there some)
-      ∙ ap (λ ys. has_some (map (λ (y : Step). y.seen) ys)) none)
+      ∙ ap (λ ys. has_some (map (λ (y : Step). y.on_stack) ys)) none)
 
   -- ---- a thread without a part
 
@@ -103,7 +103,7 @@ module _ {W : Type 0} (m : Meaning W) (plan : Plan W) (n : ℕ) (h : PartHead) (
   other_account s other apart same known =
       let has = is.known other known in
       let P : List Step → Account → Type 0 =
-      λ ss a. Stands plan.guest.syms (stack_at plan.guest.syms plan.past other.0 has.first) (own_seen other.0 ss) a in
+      λ ss a. Stands plan.guest.syms (stack_at plan.guest.syms plan.past other.0 has.first) (events_on_stack_of other.0 ss) a in
       record {
         first = has.first;
         stands =
@@ -112,21 +112,21 @@ module _ {W : Type 0} (m : Meaning W) (plan : Plan W) (n : ℕ) (h : PartHead) (
         within = subst (SumsWithin (length plan.past)) (sym same) has.within;
       }
 
-  pub none_next : own n plan.segment ≡ [] → IsPutting m plan (n + 1) h r w
+  pub none_next : steps_of_thread n plan.segment ≡ [] → IsPutting m plan (n + 1) h r w
   none_next none = record {
     known = λ other known. elim (eqb_tells other.0 n) as
         (λ _. HasAccount plan.guest.syms plan.past (since_of (n + 1) plan.segment other.0) r other) [
           | inl same ↦
               (let has = is.known other known in
-              let P : List Seen → Type 0 =
+              let P : List EventOnStack → Type 0 =
               λ xs.
               Stands plan.guest.syms (stack_at plan.guest.syms plan.past other.0 has.first) xs (account r other) in
-              let before : own_seen other.0 (since_of n plan.segment other.0) ≡ [] =
-              (λ i. own_seen (same.1 i) (since_of n plan.segment (same.1 i)))
-              ∙ ap (own_seen n) (since_now n plan.segment) ∙ ap (map (λ (y : Step). y.seen)) none in
-              let after : own_seen other.0 (since_of (n + 1) plan.segment other.0) ≡ [] =
-              (λ i. own_seen (same.1 i) (since_of (n + 1) plan.segment (same.1 i)))
-              ∙ ap (own_seen n) (since_past n plan.segment) in
+              let before : events_on_stack_of other.0 (since_of n plan.segment other.0) ≡ [] =
+              (λ i. events_on_stack_of (same.1 i) (since_of n plan.segment (same.1 i)))
+              ∙ ap (events_on_stack_of n) (since_now n plan.segment) ∙ ap (map (λ (y : Step). y.on_stack)) none in
+              let after : events_on_stack_of other.0 (since_of (n + 1) plan.segment other.0) ≡ [] =
+              (λ i. events_on_stack_of (same.1 i) (since_of (n + 1) plan.segment (same.1 i)))
+              ∙ ap (events_on_stack_of n) (since_past n plan.segment) in
               record { first = has.first; stands = subst P (before ∙ sym after) has.stands; within = has.within })
           | inr apart ↦ other_account r other apart.1 refl known
         ];
@@ -149,73 +149,73 @@ module _ {W : Type 0} (m : Meaning W) (plan : Plan W) (n : ℕ) (h : PartHead) (
 
   -- the part's rows
   abbrev part_rows : Listed
-  part_rows = rows_of plan.guest.syms (own_seen n plan.segment)
+  part_rows = rows_of plan.guest.syms (events_on_stack_of n plan.segment)
 
   abbrev part_head : PartHead
   part_head = head_of (head_of_run plan.guest) h.part h.trigger n
 
-  some_calls : own n plan.segment ≢ []
+  some_calls : steps_of_thread n plan.segment ≢ []
       → thread_calls (rows_of plan.guest.syms) (head_of_run plan.guest) h.part h.trigger n
-      (own_seen n plan.segment) ≡ Writes part_head part_rows ∷ []
-  some_calls some = by (own n plan.segment) some
+      (events_on_stack_of n plan.segment) ≡ Writes part_head part_rows ∷ []
+  some_calls some = by (steps_of_thread n plan.segment) some
     where
       by : (ys : List Step) → ys ≢ []
           → thread_calls (rows_of plan.guest.syms) (head_of_run plan.guest) h.part h.trigger n
-          (map (λ (y : Step). y.seen) ys)
+          (map (λ (y : Step). y.on_stack) ys)
           ≡ Writes (head_of (head_of_run plan.guest) h.part h.trigger n)
-          (rows_of plan.guest.syms (map (λ (y : Step). y.seen) ys)) ∷ []
+          (rows_of plan.guest.syms (map (λ (y : Step). y.on_stack) ys)) ∷ []
       by [] none = absurd (none refl)
       by (y ∷ ys) none = refl
 
-  pub next_calls : own n plan.segment ≢ []
+  pub next_calls : steps_of_thread n plan.segment ≢ []
       → calls_below plan h.part h.trigger (n + 1)
       ≡ calls_below plan h.part h.trigger n ++ Writes part_head part_rows ∷ []
   next_calls some =
       below-next m plan h.part h.trigger n
       ∙ ap (λ cs. calls_below plan h.part h.trigger n ++ cs) (some_calls some)
 
-  some_past : own n plan.segment ≢ [] → 0 < length (own n plan.past)
-  some_past some = by (own n plan.past) (λ none. some
-      (none_left (own n is.earlier) (own n plan.segment)
-      (sym (own-append n is.earlier plan.segment) ∙ ap (own n) (sym is.together) ∙ none)))
+  some_past : steps_of_thread n plan.segment ≢ [] → 0 < length (steps_of_thread n plan.past)
+  some_past some = by (steps_of_thread n plan.past) (λ none. some
+      (none_left (steps_of_thread n is.earlier) (steps_of_thread n plan.segment)
+      (sym (own-append n is.earlier plan.segment) ∙ ap (steps_of_thread n) (sym is.together) ∙ none)))
     where
       by : (ys : List Step) → (ys ≡ [] → ⊥) → 0 < length ys
       by [] none = absurd (none refl)
       by (y ∷ ys) none = omega arith
 
   -- the part may be written
-  pub write_fits : own n plan.segment ≢ [] → AreKnown plan.guest.syms part_rows
-      → Watched plan.guest.syms
+  pub write_fits : steps_of_thread n plan.segment ≢ [] → AreKnown plan.guest.syms part_rows
+      → AreWatched plan.guest.syms
       ((plan.before ++ calls_below plan h.part h.trigger n) ++ Writes part_head part_rows ∷ [])
   write_fits some known =
       let cs = plan.before ++ calls_below plan h.part h.trigger n in
       let fits : Fits plan.guest.syms cs (Writes part_head part_rows) = (
-        (let P : List Step → Type 0 = λ ps. 0 < length (own n ps) in
+        (let P : List Step → Type 0 = λ ps. 0 < length (steps_of_thread n ps) in
             subst P (sym is.watch.steps) (some_past some)),
         known,
       ) in
       watched_more plan.guest.syms cs (Writes part_head part_rows) is.watch.watched fits
 
-  module _ (k : PartHead) (s : Recording) (v : W) (known : knows r t ≡ true) (some : own n plan.segment ≢ [])
+  module _ (k : PartHead) (s : Recording) (v : W) (known : knows r t ≡ true) (some : steps_of_thread n plan.segment ≢ [])
       (part : k.part ≡ h.part) (trigger : k.trigger ≡ h.trigger) (head : IsHead plan.guest k)
-      (cut : account s t ≡ cut_off (account r t)) (bounds : SumsWithin (length plan.past) (account s t))
-      (others : (other : ThreadNo) → other.0 ≢ t.0 → kept s other ≡ kept r other)
+      (cut : account s t ≡ account_after_cut (account r t)) (bounds : SumsWithin (length plan.past) (account s t))
+      (others : (other : ThreadNo) → other.0 ≢ t.0 → ledger s other ≡ ledger r other)
       (known_still : (other : ThreadNo) → knows s other ≡ knows r other)
       (are_known : AreKnown plan.guest.syms part_rows)
       (told : v ≡ m.after_part w part_head part_rows plan.guest.syms) where
     cut_account : HasAccount plan.guest.syms plan.past (since_of (n + 1) plan.segment t.0) s t
     cut_account =
         let has = is.known t known in
-        let P : List Seen → Account → Type 0 =
+        let P : List EventOnStack → Account → Type 0 =
         λ xs a. Stands plan.guest.syms (stack_at plan.guest.syms plan.past t.0 has.first) xs a in
-        let none : own_seen t.0 (since_of (n + 1) plan.segment t.0) ≡ [] =
-        (λ i. own_seen (number i) (since_of (n + 1) plan.segment (number i)))
-        ∙ ap (own_seen n) (since_past n plan.segment) in
+        let none : events_on_stack_of t.0 (since_of (n + 1) plan.segment t.0) ≡ [] =
+        (λ i. events_on_stack_of (number i) (since_of (n + 1) plan.segment (number i)))
+        ∙ ap (events_on_stack_of n) (since_past n plan.segment) in
         record {
           first = has.first;
           stands =
-              subst (P (own_seen t.0 (since_of (n + 1) plan.segment t.0))) (sym cut)
-              (subst (λ xs. P xs (cut_off (account r t))) (sym none)
+              subst (P (events_on_stack_of t.0 (since_of (n + 1) plan.segment t.0))) (sym cut)
+              (subst (λ xs. P xs (account_after_cut (account r t))) (sym none)
               (stands_cut plan.guest.syms (stack_at plan.guest.syms plan.past t.0 has.first) (account r t)
               has.stands.stack));
           within = bounds;

@@ -9,21 +9,21 @@ use Rattle.std.proofs.lemmas.List.Concat.{flat_map-append}
 use Rattle.std.proofs.Math.Nat.{le-min, min-le_left, min-le_right}
 use Rattle.outside.specs.Files.{Rose}
 use Rattle.outside.specs.Outside.{Leaves, Log, Named, Outside, Output, Shelf, Tells, puts_of, shelf}
-use Rattle.outside.specs.Told.{AreWritten, AreWrittenTo, Call as ToldCall, Put, TellsMore, Wrote}
+use Rattle.outside.specs.Journal.{AreWritten, AreWrittenTo, Call as ToldCall, Put, TellsMore, Wrote}
 use Rattle.outside.specs.declared.folder.PutError.TheVariants as put
 use Rattle.outside.specs.declared.sink.WriteError.{WriteError}
 use Rattle.outside.specs.declared.sink.WriteError.TheVariants as write
-use Rattle.outside.proofs.ToldLemmas.{tells_then}
+use Rattle.outside.proofs.JournalLemmas.{tells_then}
 use Rattle.event_costs.specs.Runs.{Run}
 use Rattle.outside.specs.Write.{taken_more}
 use Rattle.event_costs.specs.declared.numbers.ThreadNo.{ThreadNo}
-use Rattle.guest_sched.specs.Seen.{Seen}
+use Rattle.guest_sched.specs.Machine.{Machine}
 use Rattle.part_dump.specs.Files.{IsFront, part_name}
 use Rattle.part_dump.specs.Watching.{Meaning, after_calls, puts}
-use Rattle.profile_run.specs.Guest.{Fits, Guest}
+use Rattle.profile_run.specs.Program.{Fits, Program}
 use Rattle.profile_run.specs.Parts.{Writing, calls_of, calls_so_far, watched_parts}
 use Rattle.profile_run.specs.Runs.{AreUnput, EndsPart, HasDoneSome, IsCutShort, IsFrontOf}
-use Rattle.profile_run.specs.Trace.{IsTraceOf, Makes, Stop, Taken, bytes_to, going, piece_to, pieces, sent, start}
+use Rattle.profile_run.specs.Trace.{IsTraceOf, Makes, Stop, RunStep, bytes_to, next_step, piece_to, pieces, sent_bytes, start}
 use Rattle.profile_run.specs.Trace.{steps_of}
 use Rattle.profile_run.specs.inner.Standing.{Fails, Grows, HasPut, HasSent, Job, RefusedBy, Sends, SendsFront, files_at}
 use Rattle.profile_run.specs.declared.run_end.PartFile.{PartFile}
@@ -72,22 +72,22 @@ front_all files = record { rest = []; whole = sym (append-nil files); follows = 
 pub bytes_all : (bytes : List ℕ) → IsFrontOf bytes bytes
 bytes_all bytes = ([], sym (append-nil bytes))
 
-sent-append : (descriptor : ℕ) (xs ys : List Taken)
-    → sent descriptor (xs ++ ys) ≡ sent descriptor xs ++ sent descriptor ys
-sent-append descriptor xs ys = flat_map-append (λ (x : Taken). bytes_to descriptor x.output) xs ys
+sent-append : (descriptor : ℕ) (xs ys : List RunStep)
+    → sent_bytes descriptor (xs ++ ys) ≡ sent_bytes descriptor xs ++ sent_bytes descriptor ys
+sent-append descriptor xs ys = flat_map-append (λ (x : RunStep). bytes_to descriptor x.output) xs ys
 
-pub sent-push : (descriptor : ℕ) (xs : List Taken) (x : Taken)
-    → sent descriptor (xs ++ x ∷ []) ≡ sent descriptor xs ++ bytes_to descriptor x.output
+pub sent-push : (descriptor : ℕ) (xs : List RunStep) (x : RunStep)
+    → sent_bytes descriptor (xs ++ x ∷ []) ≡ sent_bytes descriptor xs ++ bytes_to descriptor x.output
 sent-push descriptor xs x =
     sent-append descriptor xs (x ∷ [])
-    ∙ ap (λ bs. sent descriptor xs ++ bs) (append-nil (bytes_to descriptor x.output))
+    ∙ ap (λ bs. sent_bytes descriptor xs ++ bs) (append-nil (bytes_to descriptor x.output))
 
-sent_front : (descriptor : ℕ) (taken : List ℕ) (past rest : List Taken) → IsFrontOf taken (sent descriptor past)
-    → IsFrontOf taken (sent descriptor (past ++ rest))
+sent_front : (descriptor : ℕ) (taken : List ℕ) (past rest : List RunStep) → IsFrontOf taken (sent_bytes descriptor past)
+    → IsFrontOf taken (sent_bytes descriptor (past ++ rest))
 sent_front descriptor taken past rest f = (
-  f.0 ++ sent descriptor rest,
-  sent-append descriptor past rest ∙ ap (λ bs. bs ++ sent descriptor rest) f.1
-      ∙ append_assoc taken f.0 (sent descriptor rest),
+  f.0 ++ sent_bytes descriptor rest,
+  sent-append descriptor past rest ∙ ap (λ bs. bs ++ sent_bytes descriptor rest) f.1
+      ∙ append_assoc taken f.0 (sent_bytes descriptor rest),
 )
 
 -- a front of what a step outputs
@@ -104,18 +104,18 @@ bytes_front descriptor to count bytes f = (
     by false xs ys = refl
 
 -- the bytes of the steps before, and a front of the last one's
-last_front : (descriptor to : ℕ) (count bytes : List ℕ) (past : List Taken) (last : Taken)
+last_front : (descriptor to : ℕ) (count bytes : List ℕ) (past : List RunStep) (last : RunStep)
     → last.output ≡ Some (to, bytes) → IsFrontOf count bytes
-    → IsFrontOf (sent descriptor past ++ bytes_to descriptor (Some (to, count))) (sent descriptor (past ++ last ∷ []))
+    → IsFrontOf (sent_bytes descriptor past ++ bytes_to descriptor (Some (to, count))) (sent_bytes descriptor (past ++ last ∷ []))
 last_front descriptor to count bytes past last is f =
     let more = bytes_front descriptor to count bytes f in (
       more.0,
-      sent-push descriptor past last ∙ ap (λ o. sent descriptor past ++ bytes_to descriptor o) is
-          ∙ ap (λ bs. sent descriptor past ++ bs) more.1
-          ∙ sym (append_assoc (sent descriptor past) (bytes_to descriptor (Some (to, count))) more.0),
+      sent-push descriptor past last ∙ ap (λ o. sent_bytes descriptor past ++ bytes_to descriptor o) is
+          ∙ ap (λ bs. sent_bytes descriptor past ++ bs) more.1
+          ∙ sym (append_assoc (sent_bytes descriptor past) (bytes_to descriptor (Some (to, count))) more.0),
     )
 
-module _ {W : Type 0} (m : Meaning W) (guest : Guest) (first : W) where
+module _ {W : Type 0} (m : Meaning W) (guest : Program) (first : W) where
   abbrev writing : Writing
   writing = watched_parts m first guest
 
@@ -123,7 +123,7 @@ module _ {W : Type 0} (m : Meaning W) (guest : Guest) (first : W) where
   base = guest.options.base
 
   -- all files of a run begin with those that were put up to some of its steps
-  files_whole : (past rest : List Taken) (tried : Option (ThreadNo × ℕ))
+  files_whole : (past rest : List RunStep) (tried : Option (ThreadNo × ℕ))
       → (more : List Named)
       × (writing.whole (steps_of (past ++ rest)) tried ≡ files_at m guest first (steps_of past) ++ more)
   files_whole past rest tried =
@@ -131,12 +131,12 @@ module _ {W : Type 0} (m : Meaning W) (guest : Guest) (first : W) where
       let cs = calls_so_far guest (steps_of past) in (
         puts m guest.syms base (after_calls m guest.syms first cs) front.rest,
         ap (λ xs. puts m guest.syms base first (calls_of guest xs tried))
-            (map-append (λ (y : Taken). y.step) past rest)
+            (map-append (λ (y : RunStep). y.step) past rest)
             ∙ ap (puts m guest.syms base first) front.is ∙ puts-append m guest.syms base first cs front.rest,
       )
 
   -- and so do those up to one step more
-  pub files_more : (past : List Taken) (last : Taken)
+  pub files_more : (past : List RunStep) (last : RunStep)
       → (more : List Named)
       × (files_at m guest first (steps_of (past ++ last ∷ [])) ≡ files_at m guest first (steps_of past) ++ more)
   files_more past last =
@@ -144,21 +144,21 @@ module _ {W : Type 0} (m : Meaning W) (guest : Guest) (first : W) where
       let cs = calls_so_far guest (steps_of past) in (
         puts m guest.syms base (after_calls m guest.syms first cs) front.rest,
         ap (λ xs. puts m guest.syms base first (calls_so_far guest xs))
-            (map-append (λ (y : Taken). y.step) past (last ∷ []))
+            (map-append (λ (y : RunStep). y.step) past (last ∷ []))
             ∙ ap (puts m guest.syms base first) front.is ∙ puts-append m guest.syms base first cs front.rest,
       )
 
   -- a trace that goes on behind these steps, and whose files begin with these
-  pub record Leads (past : List Taken) (files : List Named) : Type 0 where
-    pub trace : List Taken
+  pub record Leads (past : List RunStep) (files : List Named) : Type 0 where
+    pub trace : List RunStep
     pub stop : Stop
     pub is : IsTraceOf guest trace stop
-    pub later : List Taken
+    pub later : List RunStep
     pub steps : trace ≡ past ++ later
     pub more : List Named
     pub whole : writing.whole (steps_of trace) stop.tried ≡ files ++ more
 
-  pub leads_on : (past : List Taken) (machine : Seen) → Run (going guest) (start guest) past (machine, past)
+  pub leads_on : (past : List RunStep) (machine : Machine) → Run (next_step guest) (start guest) past (machine, past)
       → length past ≤ guest.options.budget → Leads past (files_at m guest first (steps_of past))
   leads_on past machine run few =
       let w = goes_on guest past machine run few in
@@ -174,9 +174,9 @@ module _ {W : Type 0} (m : Meaning W) (guest : Guest) (first : W) where
       }
 
   -- what was put out of a front of a run is a front of what its trace puts out
-  pub short : (past : List Taken) (files : List Named) (output : Output) → Leads past files
-      → IsFront output.files output.refused files → IsFrontOf output.out (sent 1 past)
-      → IsFrontOf output.err (sent 2 past) → IsCutShort writing guest output
+  pub short : (past : List RunStep) (files : List Named) (output : Output) → Leads past files
+      → IsFront output.files output.refused files → IsFrontOf output.out (sent_bytes 1 past)
+      → IsFrontOf output.err (sent_bytes 2 past) → IsCutShort writing guest output
   short past files output l put out err = record {
     trace = l.trace;
     stop = l.stop;
@@ -185,8 +185,8 @@ module _ {W : Type 0} (m : Meaning W) (guest : Guest) (first : W) where
       files =
           front_more output.files output.refused files l.more (writing.whole (steps_of l.trace) l.stop.tried)
           l.whole put;
-      out = subst (λ t. IsFrontOf output.out (sent 1 t)) (sym l.steps) (sent_front 1 output.out past l.later out);
-      err = subst (λ t. IsFrontOf output.err (sent 2 t)) (sym l.steps) (sent_front 2 output.err past l.later err);
+      out = subst (λ t. IsFrontOf output.out (sent_bytes 1 t)) (sym l.steps) (sent_front 1 output.out past l.later out);
+      err = subst (λ t. IsFrontOf output.err (sent_bytes 2 t)) (sym l.steps) (sent_front 2 output.err past l.later err);
     };
   }
 
@@ -203,7 +203,7 @@ all_written error pieces writes are = record {
 
 -- ---- each refusal
 
-module _ {W : Type 0} (m : Meaning W) (job : Job W) (fits : Fits job.guest) (past : List Taken) where
+module _ {W : Type 0} (m : Meaning W) (job : Job W) (fits : Fits job.guest) (past : List RunStep) where
   abbrev its : Writing
   its = watched_parts m job.first job.guest
 
@@ -232,21 +232,21 @@ module _ {W : Type 0} (m : Meaning W) (job : Job W) (fits : Fits job.guest) (pas
   }
 
   -- memory was wanting
-  pub no_memory : (machine : Seen) → Run (going job.guest) (start job.guest) past (machine, past)
+  pub no_memory : (machine : Machine) → Run (next_step job.guest) (start job.guest) past (machine, past)
       → length past ≤ job.guest.options.budget → (parts : List PartFile) (now : Outside)
       → HasPut job.guest.options.base (files_at m job.guest job.first (steps_of past)) (shelf job.old) (shelf now) parts
       → HasSent past job.old now → Fails m job (OutOfMemory memory) now
   no_memory machine run few parts now put sent_ =
       let files = files_at m job.guest job.first (steps_of past) in
       let leads = leads_on m job.guest job.first past machine run few in
-      let output : Output = record { files = files; refused = None; out = sent 1 past; err = sent 2 past } in
+      let output : Output = record { files = files; refused = None; out = sent_bytes 1 past; err = sent_bytes 2 past } in
       record {
         output = output;
         runs =
             inl (
               fits,
-              short m job.guest job.first past files output leads (front_all files) (bytes_all (sent 1 past))
-                  (bytes_all (sent 2 past)),
+              short m job.guest job.first past files output leads (front_all files) (bytes_all (sent_bytes 1 past))
+                  (bytes_all (sent_bytes 2 past)),
             );
         left = record { files = put.files; out = sent_.out; err = sent_.err };
         log = record { calls = puts_of files ++ []; out = sent_.out_told.0; err = sent_.err_told.0 };
@@ -269,14 +269,14 @@ module _ {W : Type 0} (m : Meaning W) (job : Job W) (fits : Fits job.guest) (pas
       let name = part_name job.guest.options.base number thread.0 in
       let done = r.2.refused.done in
       let output : Output =
-      record { files = done; refused = Some name; out = sent 1 past; err = sent 2 past } in
+      record { files = done; refused = Some name; out = sent_bytes 1 past; err = sent_bytes 2 past } in
       record {
         output = output;
         runs = (
           fits,
           rose_from job.old.put_faults before now.put_faults grows r.1,
-          short m job.guest job.first past files output leads r.2.refused.front (bytes_all (sent 1 past))
-              (bytes_all (sent 2 past)),
+          short m job.guest job.first past files output leads r.2.refused.front (bytes_all (sent_bytes 1 past))
+              (bytes_all (sent_bytes 2 past)),
           record {
             past = past;
             makes = makes;
@@ -316,14 +316,14 @@ module _ {W : Type 0} (m : Meaning W) (job : Job W) (fits : Fits job.guest) (pas
   put_failed makes part files ends leads (OutOfMemory _) before now sent_ grows r =
       let done = r.refused.done in
       let output : Output =
-      record { files = done; refused = r.name; out = sent 1 past; err = sent 2 past } in
+      record { files = done; refused = r.name; out = sent_bytes 1 past; err = sent_bytes 2 past } in
       record {
         output = output;
         runs =
             inl (
               fits,
-              short m job.guest job.first past files output leads r.refused.front (bytes_all (sent 1 past))
-                  (bytes_all (sent 2 past)),
+              short m job.guest job.first past files output leads r.refused.front (bytes_all (sent_bytes 1 past))
+                  (bytes_all (sent_bytes 2 past)),
             );
         left = record { files = r.refused.left; out = sent_.out; err = sent_.err };
         log = record { calls = puts_of done ++ r.last; out = sent_.out_told.0; err = sent_.err_told.0 };
@@ -336,8 +336,8 @@ module _ {W : Type 0} (m : Meaning W) (job : Job W) (fits : Fits job.guest) (pas
   put_failed makes part files ends leads OutFault before now sent_ grows r = absurd r
 
 -- the output of a step could not be written
-module _ {W : Type 0} (m : Meaning W) (job : Job W) (fits : Fits job.guest) (past : List Taken) (last : Taken)
-    (machine : Seen) (run : Run (going job.guest) (start job.guest) (past ++ last ∷ []) (machine, past ++ last ∷ []))
+module _ {W : Type 0} (m : Meaning W) (job : Job W) (fits : Fits job.guest) (past : List RunStep) (last : RunStep)
+    (machine : Machine) (run : Run (next_step job.guest) (start job.guest) (past ++ last ∷ []) (machine, past ++ last ∷ []))
     (few : length (past ++ last ∷ []) ≤ job.guest.options.budget) (to : ℕ) (bytes : List ℕ)
     (is : last.output ≡ Some (to, bytes)) (parts : List PartFile) (before now : Outside)
     (put_ : HasPut job.guest.options.base (files_at m job.guest job.first (steps_of past)) (shelf job.old)
@@ -347,8 +347,8 @@ module _ {W : Type 0} (m : Meaning W) (job : Job W) (fits : Fits job.guest) (pas
   partly count = record {
     files = files_at m job.guest job.first (steps_of past);
     refused = None;
-    out = sent 1 past ++ bytes_to 1 (Some (to, count));
-    err = sent 2 past ++ bytes_to 2 (Some (to, count));
+    out = sent_bytes 1 past ++ bytes_to 1 (Some (to, count));
+    err = sent_bytes 2 past ++ bytes_to 2 (Some (to, count));
   }
 
   leads : Leads m job.guest job.first (past ++ last ∷ [])
@@ -378,10 +378,10 @@ module _ {W : Type 0} (m : Meaning W) (job : Job W) (fits : Fits job.guest) (pas
       files = ap (λ (s : Shelf). s.files) same ∙ put_.files;
       out =
           f.out ∙ ap (λ t. taken_more t (bytes_to 1 (Some (to, f.count)))) sent_.out
-          ∙ more_taken job.old.out.taken (sent 1 past) (bytes_to 1 (Some (to, f.count)));
+          ∙ more_taken job.old.out.taken (sent_bytes 1 past) (bytes_to 1 (Some (to, f.count)));
       err =
           f.err ∙ ap (λ t. taken_more t (bytes_to 2 (Some (to, f.count)))) sent_.err
-          ∙ more_taken job.old.err.taken (sent 2 past) (bytes_to 2 (Some (to, f.count)));
+          ∙ more_taken job.old.err.taken (sent_bytes 2 past) (bytes_to 2 (Some (to, f.count)));
     }
 
     abbrev pub done_partly : Log

@@ -13,10 +13,10 @@ use Rattle.event_costs.specs.Keys.{ArcKey, Place}
 use Rattle.event_costs.specs.declared.numbers.ThreadNo.{ThreadNo}
 use Rattle.cg_format.specs.declared.trigger.Trigger.{Trigger}
 use Rattle.sym_map.specs.SymbolMap.{SymbolMap, place_of}
-use Rattle.shadow_stack.specs.Changes.{change, entered}
+use Rattle.shadow_stack.specs.Changes.{change, new_activation}
 use Rattle.shadow_stack.specs.Kinds.{is_root}
 use Rattle.shadow_stack.specs.Stacks.{Activation, Stack, most_frames, root}
-use Rattle.shadow_stack.specs.Traces.{Seen, stack_of}
+use Rattle.shadow_stack.specs.Traces.{EventOnStack, stack_of}
 use Rattle.shadow_stack.specs.declared.frame.Kind.{Kind}
 use Rattle.cache_lru.specs.Costs.{event_cost}
 use Rattle.cache_lru.proofs.HistoryLemmas.{event_cost-ones}
@@ -25,7 +25,7 @@ use Rattle.arc_costs.specs.Contents.{Listed}
 use Rattle.arc_costs.specs.Lines.{is_some_line}
 use Rattle.event_costs.specs.Order.{same_place}
 use Rattle.arc_costs.specs.Rows.{ArcRow, LineRow}
-use Rattle.guest_sched.specs.Step.{Told}
+use Rattle.guest_sched.specs.Step.{MachineStep}
 use Rattle.recorder.specs.Laws.{IsIn}
 use Rattle.recorder.specs.Sums.{arc_calls, arc_cost, entered_by, is_arc, pushes, self_cost}
 use Rattle.cg_format.specs.declared.head.PartHead.{PartHead}
@@ -33,16 +33,16 @@ use Rattle.part_dump.specs.Calls.{Readies, Sees, Writes, closed_calls, part_call
 use Rattle.part_dump.specs.Calls.{steps_calls}
 use Rattle.part_dump.specs.Calls.{thread_calls, tried_calls}
 use Rattle.part_dump.specs.Cuts.{cuts}
-use Rattle.part_dump.specs.Steps.{Step, event_of, frames_in, own, own_events, own_seen, stack_at, thread_of, threads}
+use Rattle.part_dump.specs.Steps.{Step, event_of, frames_in, steps_of_thread, events_of_thread, events_on_stack_of, stack_at, thread_of, threads}
 use Rattle.part_dump.proofs.CutLemmas.{cuts_together}
 use Rattle.std.specs.Prelude.{◌==◌}
-use Rattle.profile_run.specs.Guest.{Guest, head_of_run}
+use Rattle.profile_run.specs.Program.{Program, head_of_run}
 use Rattle.profile_run.specs.Parts.{calls_of}
 use Rattle.arc_costs.specs.Keys.{by_kind}
 use Rattle.recorder.specs.Rows.{arc_at, arcs, line_at, places, rows_of}
 use Rattle.profile_run.specs.Sizes.{FitTypes}
 use Rattle.profile_run.specs.Steps.{AreTold, IsTold}
-use Rattle.profile_run.specs.Trace.{Makes, Taken, events_of, steps_of}
+use Rattle.profile_run.specs.Trace.{Makes, RunStep, events_of, steps_of}
 use Rattle.part_dump.proofs.StepLemmas.{length-push}
 use Rattle.profile_run.proofs.AccountLemmas.{true_false}
 use Rattle.recorder.proofs.ArcRowLemmas.{count_is}
@@ -67,7 +67,7 @@ stacks_bare syms = stack_each syms IsBare begins enters
     begins pc a (inr none) = elim none [ ]
 
     enters : (e : Event) (kind : Kind) (s : Stack) → is_root kind ≡ false → Each IsBare s
-        → IsBare (entered syms e kind s)
+        → IsBare (new_activation syms e kind s)
     enters e kind s other all = λ is. absurd (true_false (sym is ∙ other))
 
 sums_le : {A : Type 0} (f g : A → ℕ) (xs : List A) → ((x : A) → IsIn xs x → f x ≤ g x) → sum_by f xs ≤ sum_by g xs
@@ -102,39 +102,39 @@ entered_few k s bare =
 -- ---- the steps of a run
 
 -- what an event adds to a sum is small
-pub record IsSmall (x : Seen) : Type 0 where
+pub record IsSmall (x : EventOnStack) : Type 0 where
   pub ones : (kind : ℕ) → get_or x.cost kind 0 ≤ 1
   pub frames : (k : ArcKey) → entered_by k x.stack ≤ most_frames
 
-module _ (guest : Guest) where
-  small_step : (before : List Taken) (told : Told) (x : Taken) → IsTold guest before told x → IsSmall x.step.seen
+module _ (guest : Program) where
+  small_step : (before : List RunStep) (told : MachineStep) (x : RunStep) → IsTold guest before told x → IsSmall x.step.on_stack
   small_step before told x is =
       let thread = told.event.thread.0 in
       let pc = told.event.done.pc in
       let steps = steps_of before in
       let cost = event_cost guest.options.branch guest.options.shapes (events_of before) told.event in
-      subst (λ (y : Taken). IsSmall y.step.seen) (sym is.is)
+      subst (λ (y : RunStep). IsSmall y.step.on_stack) (sym is.is)
       (record {
         ones = units cost (event_cost-ones guest.options.branch guest.options.shapes (events_of before) told.event);
         frames = λ k.
             (let few =
             entered_few k (stack_at guest.syms steps thread pc)
-            (stacks_bare guest.syms (own_events thread steps) pc) in
+            (stacks_bare guest.syms (events_of_thread thread steps) pc) in
             let within = frames_within guest.syms steps thread pc in
             let room = is.room in
             omega (arith, few, within, room));
       })
 
-  pub are_small : (before : List Taken) (tolds : List Told) (xs : List Taken) → AreTold guest before tolds xs
-      → (y : Step) → IsIn (steps_of xs) y → IsSmall y.seen
+  pub are_small : (before : List RunStep) (tolds : List MachineStep) (xs : List RunStep) → AreTold guest before tolds xs
+      → (y : Step) → IsIn (steps_of xs) y → IsSmall y.on_stack
   are_small before [] [] are y there = elim there [ ]
   are_small before [] (x ∷ xs) are y there = absurd are
   are_small before (t ∷ ts) [] are y there = absurd are
   are_small before (t ∷ ts) (x ∷ xs) are y (inl is) =
-      subst (λ (z : Step). IsSmall z.seen) is (small_step before t x are.0)
+      subst (λ (z : Step). IsSmall z.on_stack) is (small_step before t x are.0)
   are_small before (t ∷ ts) (x ∷ xs) are y (inr there) = are_small (before ++ x ∷ []) ts xs are.1 y there
 
-  pub are_few : (before : List Taken) (tolds : List Told) (xs : List Taken) → length before ≤ guest.options.budget
+  pub are_few : (before : List RunStep) (tolds : List MachineStep) (xs : List RunStep) → length before ≤ guest.options.budget
       → AreTold guest before tolds xs → length before + length xs ≤ guest.options.budget
   are_few before [] [] few are = omega (arith, few)
   are_few before [] (x ∷ xs) few are = absurd are
@@ -160,9 +160,9 @@ by_kind_fits f small =
     (λ n there. (let kind = from_map f (range_with_len 0 event_kinds) n there in
     subst (λ k. k < 2 ^ 64) kind.2 (small kind.0))))
 
-module _ (syms : SymbolMap) (xs : List Seen) (small : (x : Seen) → IsIn xs x → IsSmall x)
+module _ (syms : SymbolMap) (xs : List EventOnStack) (small : (x : EventOnStack) → IsIn xs x → IsSmall x)
     (few : length xs ≤ 10 ^ 12) where
-  sum_few : (f : Seen → ℕ) (n : ℕ) → ((x : Seen) → IsIn xs x → f x ≤ n) → sum_by f xs ≤ length xs * n
+  sum_few : (f : EventOnStack → ℕ) (n : ℕ) → ((x : EventOnStack) → IsIn xs x → f x ≤ n) → sum_by f xs ≤ length xs * n
   sum_few f n each = sum_by-le f n xs (All-from_recursion (λ x. f x ≤ n) xs (all_of (λ x. f x ≤ n) xs each))
 
   pub self_fits : (kind : ℕ) (place : Place) → self_cost syms kind place xs < 2 ^ 64
@@ -262,22 +262,22 @@ record AreRowsIn (syms : SymbolMap) (steps : List Step) (rows : Listed) : Type 0
   thread : ℕ
   within : (x : Step) → IsIn segment x → IsIn steps x
   few : length segment ≤ length steps
-  is : rows ≡ rows_of syms (own_seen thread segment)
+  is : rows ≡ rows_of syms (events_on_stack_of thread segment)
 
-module _ (guest : Guest) (steps : List Step) where
+module _ (guest : Program) (steps : List Step) where
   abbrev closed : List (List Step × Trigger)
-  closed = (cuts guest.syms guest.options.asked steps).closed
+  closed = (cuts guest.syms guest.options.dump_points steps).closed
 
   abbrev recent : List Step
-  recent = (cuts guest.syms guest.options.asked steps).recent
+  recent = (cuts guest.syms guest.options.dump_points steps).recent
 
   abbrev all_closed : List Step
   all_closed = flat_map (λ (s : List Step × Trigger). s.0) closed
 
   together : all_closed ++ recent ≡ steps
-  together = cuts_together guest.syms guest.options.asked steps
+  together = cuts_together guest.syms guest.options.dump_points steps
 
-  of_thread : (part : ℕ) (trigger : Trigger) (thread : ℕ) (xs : List Seen) (h : PartHead) (rows : Listed)
+  of_thread : (part : ℕ) (trigger : Trigger) (thread : ℕ) (xs : List EventOnStack) (h : PartHead) (rows : Listed)
       → IsIn (thread_calls (rows_of guest.syms) (head_of_run guest) part trigger thread xs) (Writes h rows)
       → rows ≡ rows_of guest.syms xs
   of_thread part trigger thread [] h rows there = elim there [ ]
@@ -292,14 +292,14 @@ module _ (guest : Guest) (steps : List Step) where
   of_parts part segment trigger h rows there inside less =
       let from =
       from_flat
-      (λ thread. thread_calls (rows_of guest.syms) (head_of_run guest) part trigger thread (own_seen thread segment))
+      (λ thread. thread_calls (rows_of guest.syms) (head_of_run guest) part trigger thread (events_on_stack_of thread segment))
       (threads segment) (Writes h rows) there in
       record {
         segment = segment;
         thread = from.0;
         within = inside;
         few = less;
-        is = of_thread part trigger from.0 (own_seen from.0 segment) h rows from.2;
+        is = of_thread part trigger from.0 (events_on_stack_of from.0 segment) h rows from.2;
       }
 
   no_part : (xs : List Step) (h : PartHead) (rows : Listed) → IsIn (steps_calls xs) (Writes h rows) → ⊥
@@ -377,21 +377,21 @@ fewer p (x ∷ xs) = by (p x) (fewer p xs)
     by true rest = omega (arith, rest)
     by false rest = omega (arith, rest)
 
-pub parts_fit : (guest : Guest) (past : List Taken) (tried : Option (ThreadNo × ℕ)) (h : PartHead) (rows : Listed)
+pub parts_fit : (guest : Program) (past : List RunStep) (tried : Option (ThreadNo × ℕ)) (h : PartHead) (rows : Listed)
     → guest.options.budget ≤ 10 ^ 12 → Makes guest past → IsIn (calls_of guest (steps_of past) tried) (Writes h rows)
     → FitTypes rows
 parts_fit guest past tried h rows long makes there =
     let run = of_machine guest past makes in
     let part = part_rows guest (steps_of past) tried h rows there in
-    let xs = own_seen part.thread part.segment in
+    let xs = events_on_stack_of part.thread part.segment in
     let own_few = fewer (λ x. thread_of x == part.thread) part.segment in
-    let seen = length-map (own part.thread part.segment) (λ (x : Step). x.seen) in
-    let all = length-map past (λ (x : Taken). x.step) in
+    let seen = length-map (steps_of_thread part.thread part.segment) (λ (x : Step). x.on_stack) in
+    let all = length-map past (λ (x : RunStep). x.step) in
     let within = are_few guest [] run.tolds past (omega arith) run.are in
     let less = part.few in
     subst FitTypes (sym part.is)
     (rows_fit guest.syms xs
-    (λ x is. (let y = from_map (λ (z : Step). z.seen) (own part.thread part.segment) x is in
+    (λ x is. (let y = from_map (λ (z : Step). z.on_stack) (steps_of_thread part.thread part.segment) x is in
     let at = in_filter (λ (z : Step). thread_of z == part.thread) part.segment y.0 y.1 in
     subst IsSmall y.2 (are_small guest [] run.tolds past run.are y.0 (part.within y.0 at.0))))
     (omega (arith, own_few, seen, all, within, less, long)))

@@ -7,22 +7,22 @@ use Rattle.std.proofs.lemmas.Bool.Decides.{nat_tests}
 use Rattle.std.proofs.Math.Nat.{le-min}
 use Rattle.outside.specs.Files.{Files}
 use Rattle.outside.specs.Outside.{Leaves, Named, Outside, Tells, nothing, nothing_done, shelf}
-use Rattle.outside.proofs.ToldLemmas.{tells_nothing_more}
+use Rattle.outside.proofs.JournalLemmas.{tells_nothing_more}
 use Rattle.event_costs.specs.declared.numbers.ThreadNo.{ThreadNo}
 use Rattle.sym_map.specs.SymbolMap.{SymbolMap}
 use Rattle.cache_lru.specs.Costs.{StandForRun}
 use Rattle.guest_load.specs.Arguments.{NeedsTooMany, arguments_len, arguments_limit}
-use Rattle.guest_load.specs.First.{first_state}
+use Rattle.guest_load.specs.First.{guest_at_start}
 use Rattle.guest_load.specs.Lawful.{IsLawful}
-use Rattle.guest_sched.specs.Seen.{Seen}
-use Rattle.recorder.specs.Accounts.{Kept, Recording, is_of, knows, live_in}
+use Rattle.guest_sched.specs.Machine.{Machine}
+use Rattle.recorder.specs.Accounts.{Ledger, Recording, is_ledger_of, knows, live_in}
 use Rattle.std.specs.Prelude.{sum_by}
 use Rattle.part_dump.specs.Calls.{closed_calls, steps_calls}
 use Rattle.part_dump.specs.Cuts.{cuts}
 use Rattle.part_dump.specs.Steps.{Step, live}
-use Rattle.part_dump.specs.Watched.{readied}
+use Rattle.part_dump.specs.Watched.{ready_pc}
 use Rattle.part_dump.specs.Watching.{Meaning, puts}
-use Rattle.profile_run.specs.Guest.{Guest, first_machine, head_of_run}
+use Rattle.profile_run.specs.Program.{Program, first_machine, head_of_run}
 use Rattle.profile_run.specs.Parts.{calls_so_far}
 use Rattle.recorder.specs.Rows.{rows_of}
 use Rattle.profile_run.specs.inner.Standing.{AreAccounts, HasPut, IsAfter, IsHead, IsHeadOf, IsWatched, Job, Standing}
@@ -34,29 +34,29 @@ use Rattle.profile_run.proofs.OutputLemmas.{nothing_more, wrote_nothing}
 true_false : true ≡ false → ⊥
 true_false e = cc
 
-no_cuts : (guest : Guest) → cuts guest.syms guest.options.asked [] ≡ record { closed = []; recent = [] }
+no_cuts : (guest : Program) → cuts guest.syms guest.options.dump_points [] ≡ record { closed = []; recent = [] }
 unfolding cuts
 no_cuts guest = refl
 
-no_calls : (guest : Guest) → calls_so_far guest [] ≡ []
+no_calls : (guest : Program) → calls_so_far guest [] ≡ []
 no_calls guest =
     ap (λ s. closed_calls (rows_of guest.syms) (head_of_run guest) s.closed ++ steps_calls s.recent) (no_cuts guest)
 
-no_files : {W : Type 0} (m : Meaning W) (guest : Guest) (first : W) → files_at m guest first [] ≡ []
+no_files : {W : Type 0} (m : Meaning W) (guest : Program) (first : W) → files_at m guest first [] ≡ []
 no_files m guest first = ap (puts m guest.syms guest.options.base first) (no_calls guest)
 
 no_live : (syms : SymbolMap) → live syms [] ≡ 0
 no_live syms = refl
 
 not_known : (r : Recording) (thread : ThreadNo) → r.threads ≡ [] → knows r thread ≡ false
-not_known r thread none = ap (list_any (is_of thread)) none
+not_known r thread none = ap (list_any (is_ledger_of thread)) none
 
 same_files : (old : Option Files) → old ≡ option_map (λ (files : Files). files) old
 same_files None = refl
 same_files (Some files) = refl
 
-module _ {W : Type 0} (m : Meaning W) (guest : Guest) (old : Outside) (first : W) (counting : Counting) (parts : Parts)
-    (lawful : IsLawful (first_state guest.image guest.args guest.input))
+module _ {W : Type 0} (m : Meaning W) (guest : Program) (old : Outside) (first : W) (counting : Counting) (parts : Parts)
+    (lawful : IsLawful (guest_at_start guest.image guest.args guest.input))
     (machine : counting.machine ≡ first_machine guest)
     (costs : StandForRun guest.options.branch guest.options.shapes counting.costs [])
     (none : counting.recorder.threads ≡ []) (head : IsHeadOf guest.args guest.options parts.head)
@@ -89,14 +89,14 @@ module _ {W : Type 0} (m : Meaning W) (guest : Guest) (old : Outside) (first : W
   first_after = record {
     run = (λ i. (sym machine i, []));
     reached = record { lawful = lawful; run = sym machine };
-    given = ap (λ (x : Seen). x.given) machine;
+    given = ap (λ (x : Machine). x.given) machine;
     few = omega arith;
     costs = costs;
     accounts = no_accounts;
     made = λ thread more. refl;
     zero = refl;
     stacks = λ x there. absurd there;
-    live = ap (sum_by (λ (k : Kept). live_in k.account.frames)) none ∙ sym (no_live guest.syms);
+    live = ap (sum_by (λ (k : Ledger). live_in k.account.frames)) none ∙ sym (no_live guest.syms);
     earlier = [];
     together = refl;
   }
@@ -115,7 +115,7 @@ module _ {W : Type 0} (m : Meaning W) (guest : Guest) (old : Outside) (first : W
       stepped = λ thread known. absurd (true_false (sym known ∙ not_known counting.recorder thread none));
       head = is_head;
       number = head.part ∙ sym (ap (λ s. length s.closed + 1) (no_cuts guest));
-      quiet = λ thread quiet. ap (readied thread) (no_calls guest);
+      quiet = λ thread quiet. ap (ready_pc thread) (no_calls guest);
       watch = subst (λ cs. IsWatched m guest first [] cs first) (sym (no_calls guest)) first_watched;
     };
     put =

@@ -8,13 +8,13 @@ use Rattle.event_costs.specs.declared.event.Event.{Event}
 use Rattle.event_costs.specs.declared.outcome.End.{End}
 use Rattle.event_costs.specs.declared.outcome.Noted.{Noted}
 use Rattle.sym_map.specs.SymbolMap.{SymbolMap}
-use Rattle.guest_sched.specs.Seen.{Seen, next, running, told}
+use Rattle.guest_sched.specs.Machine.{Machine, next, running, machine_step}
 use Rattle.recorder.specs.Accounts.{account, knows}
 use Rattle.part_dump.specs.Steps.{live}
 use Rattle.part_dump.specs.Watching.{Meaning}
 use Rattle.shadow_stack.specs.Stacks.{most_frames}
-use Rattle.profile_run.specs.Guest.{Options}
-use Rattle.profile_run.specs.Trace.{Taken, end_before, steps_of}
+use Rattle.profile_run.specs.Program.{Options}
+use Rattle.profile_run.specs.Trace.{RunStep, end_before, steps_of}
 use Rattle.profile_run.specs.inner.Standing.{Advances, Fails, GoesOn, Grows, IsCounted}
 use Rattle.profile_run.specs.inner.Standing.{IsJob, IsMade, IsStarted, IsUncut}
 use Rattle.profile_run.specs.inner.Standing.{IsWritten, Job, MayFollow, OnlyAdds, Prepares, Standing}
@@ -80,7 +80,7 @@ module _ {W : Type 0} (m : Meaning W) {fresh : W → SymbolMap → Type 0} {job 
     (is : IsJob fresh job order) {old : Counting} {parts : Parts} {w : W} {now : Outside}
     (s : IsStarted m job old parts w now) where
   -- a step may be made within the budget
-  pub spare_now : old.machine.whole.sys.guest.steps < order.options.now.budget
+  pub spare_now : old.machine.engine.kernel.guest.steps < order.options.now.budget
   spare_now =
       let are = steps_are job.guest s.past old.machine s.begun.after.reached in
       let spare = s.begun.spare in
@@ -88,7 +88,7 @@ module _ {W : Type 0} (m : Meaning W) {fresh : W → SymbolMap → Type 0} {job 
       omega (arith, are, spare, same)
 
   -- it was made and counted
-  module _ {event : Event} {after : Seen} (makes : next old.machine ≡ Ok (told event None after, after))
+  module _ {event : Event} {after : Machine} (makes : next old.machine ≡ Ok (machine_step event None after, after))
       (c : Counting) (v : W) (noted : Noted)
       (counted : IsCounted m job.guest job.first s.past (adv.last m is s makes) order.rule.after noted c.machine c.costs
       c.recorder v) where
@@ -98,31 +98,31 @@ module _ {W : Type 0} (m : Meaning W) {fresh : W → SymbolMap → Type 0} {job 
         (sends_nothing now.out now.err) (same_outside now)
 
   -- it only added to numbers, and more may follow
-  module _ {event : Event} {after : Seen} (makes : next old.machine ≡ Ok (told event None after, after))
+  module _ {event : Event} {after : Machine} (makes : next old.machine ≡ Ok (machine_step event None after, after))
       (c : Counting) (v : W) (noted : Noted)
       (counted : IsCounted m job.guest job.first s.past (adv.last m is s makes) order.rule.after noted c.machine c.costs
       c.recorder v)
       (same : c.machine ≡ after)
       (adds : OnlyAdds event.thread noted old.recorder c.recorder) (more : ℕ)
       (may : MayFollow order.options.now old.machine more) (some : 1 ≤ more) where
-    abbrev past : List Taken
+    abbrev past : List RunStep
     past = s.past ++ adv.last m is s makes ∷ []
 
     uncut : IsUncut m job.guest job.first s.past (adv.last m is s makes) order.rule.after noted c.machine c.costs c.recorder
         parts.head v
     uncut = record { counted = counted; head = s.head; number = s.number; quiet = s.quiet }
 
-    counts_on : c.machine.whole.sys.guest.steps ≡ old.machine.whole.sys.guest.steps + 1
+    counts_on : c.machine.engine.kernel.guest.steps ≡ old.machine.engine.kernel.guest.steps + 1
     counts_on = adv.counts_on m is s makes c v noted counted
 
     -- no cut stands after it
     abbrev stands : Standing m job c parts v now
     stands =
-        let steps = c.machine.whole.sys.guest.steps in
+        let steps = c.machine.engine.kernel.guest.steps in
         let one = counts_on in
         let none =
         cut_step.cut_is m uncut is.symbols is.options steps refl
-        ∙ cut_by_number order.syms.now order.options.now.asked order.rule steps (adv.last m is s makes).step.seen noted is.rule
+        ∙ cut_by_number order.syms.now order.options.now.dump_points order.rule steps (adv.last m is s makes).step.on_stack noted is.rule
         (cut_step.noted_is m uncut is.symbols) adds.none_pushed adds.none_left
         ∙ may.uncut steps (omega (arith, one)) (omega (arith, one, some)) in
         let on = cut_step.goes_on m uncut s.put (inl none) in
@@ -197,16 +197,16 @@ module _ {W : Type 0} (m : Meaning W) {fresh : W → SymbolMap → Type 0} {job 
             watch = readied;
           }) shallow refl refl
 
-      pub lasts : (left : after.whole.line.left + 1 ≡ old.machine.whole.line.left) (u : W)
+      pub lasts : (left : after.engine.run_queue.steps_left + 1 ≡ old.machine.engine.run_queue.steps_left) (u : W)
           → u ≡ m.after_ready v event.thread event.done.next order.syms.now
-          → GoesOn m job order.options.now more (old.machine.whole.sys.guest.steps + 1) (Ok Lasts) c parts u now
+          → GoesOn m job order.options.now more (old.machine.engine.kernel.guest.steps + 1) (Ok Lasts) c parts u now
       lasts left u readied = (
         started u readied,
         some,
         record {
           turn =
               (let turn = may.turn in
-              let here = ap (λ (x : Seen). x.whole.line.left) same in
+              let here = ap (λ (x : Machine). x.engine.run_queue.steps_left) same in
               omega (arith, turn, here, left, some));
           budget = (let within = may.budget in let steps = counts_on in omega (arith, within, steps, some));
           uncut = λ n above within.

@@ -7,11 +7,11 @@ use Rattle.std.proofs.lemmas.Bool.{eq-eqb}
 use Rattle.event_costs.specs.Runs.{IsTrace, Run}
 use Rattle.event_costs.specs.declared.outcome.End.{End}
 use Rattle.event_costs.specs.declared.outcome.End.TheVariants.{Budget}
-use Rattle.guest_sched.specs.Seen.{Seen, next, running}
-use Rattle.guest_sched.specs.Step.{Told}
-use Rattle.profile_run.specs.Guest.{Guest}
-use Rattle.profile_run.specs.Trace.{IsTraceOf, Position, Stop, Taken, end_before, exited, full, going, nobody_ready}
-use Rattle.profile_run.specs.Trace.{or_else, spent, start, steps_of, taken, tried_at, tries, unless_over}
+use Rattle.guest_sched.specs.Machine.{Machine, next, running}
+use Rattle.guest_sched.specs.Step.{MachineStep}
+use Rattle.profile_run.specs.Program.{Program}
+use Rattle.profile_run.specs.Trace.{IsTraceOf, Position, Stop, RunStep, end_before, exit_end, frames_end, next_step, waiting_end}
+use Rattle.profile_run.specs.Trace.{or_else, budget_end, start, steps_of, run_step, tried_at, tries, unless_end}
 use Rattle.part_dump.specs.Steps.{live}
 
 -- a run, and then another
@@ -20,35 +20,35 @@ pub Run-append : {M E X : Type 0} (step : M → Result (E × M) X) (a : M) (xs :
 Run-append step a [] b ys c run more = subst (λ m. Run step m ys c) (sym run) more
 Run-append step a (x ∷ xs) b ys c run more = (run.0, run.1, Run-append step run.0 xs b ys c run.2 more)
 
-module _ (guest : Guest) where
+module _ (guest : Program) where
   pub going-over : (p : Position) (end : End) → end_before guest p.0 p.1 ≡ Some end
-      → going guest p ≡ Err (record { end = end; tried = None })
-  unfolding going
-  going-over p end is = ap (λ o. unless_over o (tries guest p (next p.0))) is
+      → next_step guest p ≡ Err (record { end = end; tried = None })
+  unfolding next_step
+  going-over p end is = ap (λ o. unless_end o (tries guest p (next p.0))) is
 
-  pub going-step : (p : Position) (told : Told) (m : Seen) → end_before guest p.0 p.1 ≡ None
+  pub going-step : (p : Position) (told : MachineStep) (m : Machine) → end_before guest p.0 p.1 ≡ None
       → next p.0 ≡ Ok (told, m)
-      → going guest p ≡ Ok (taken guest p.1 told, (m, p.1 ++ taken guest p.1 told ∷ []))
-  unfolding going
+      → next_step guest p ≡ Ok (run_step guest p.1 told, (m, p.1 ++ run_step guest p.1 told ∷ []))
+  unfolding next_step
   going-step p told m none is =
-      ap (λ o. unless_over o (tries guest p (next p.0))) none ∙ ap (λ r. tries guest p r) is
+      ap (λ o. unless_end o (tries guest p (next p.0))) none ∙ ap (λ r. tries guest p r) is
 
   pub going-end : (p : Position) (end : End) → end_before guest p.0 p.1 ≡ None → next p.0 ≡ Err end
-      → going guest p ≡ Err (record { end = end; tried = tried_at end (running p.0) })
-  unfolding going
+      → next_step guest p ≡ Err (record { end = end; tried = tried_at end (running p.0) })
+  unfolding next_step
   going-end p end none is =
-      ap (λ o. unless_over o (tries guest p (next p.0))) none ∙ ap (λ r. tries guest p r) is
+      ap (λ o. unless_end o (tries guest p (next p.0))) none ∙ ap (λ r. tries guest p r) is
 
   -- a step, or an end
   abbrev Moves : Position → Type 0
-  Moves p = (x : Taken) × (m : Seen) × (going guest p ≡ Ok (x, (m, p.1 ++ x ∷ [])))
+  Moves p = (x : RunStep) × (m : Machine) × (next_step guest p ≡ Ok (x, (m, p.1 ++ x ∷ [])))
 
   abbrev Stops : Position → Type 0
-  Stops p = (stop : Stop) × (going guest p ≡ Err stop)
+  Stops p = (stop : Stop) × (next_step guest p ≡ Err stop)
 
-  tried : (p : Position) (r : Result (Told × Seen) End) → end_before guest p.0 p.1 ≡ None → next p.0 ≡ r
+  tried : (p : Position) (r : Result (MachineStep × Machine) End) → end_before guest p.0 p.1 ≡ None → next p.0 ≡ r
       → Moves p ⊎ Stops p
-  tried p (Ok made) none is = inl (taken guest p.1 made.0, made.1, going-step p made.0 made.1 none is)
+  tried p (Ok made) none is = inl (run_step guest p.1 made.0, made.1, going-step p made.0 made.1 none is)
   tried p (Err end) none is =
       inr (record { end = end; tried = tried_at end (running p.0) }, going-end p end none is)
 
@@ -61,7 +61,7 @@ module _ (guest : Guest) where
 
   -- where the budget is spent, no more step is made
   or_spent : (o rest : Option End) (budget steps : ℕ) → steps ≡ budget
-      → (end : End) × (or_else o (or_else (spent budget steps) rest) ≡ Some end)
+      → (end : End) × (or_else o (or_else (budget_end budget steps) rest) ≡ Some end)
   or_spent (Some end) rest budget steps e = (end, refl)
   or_spent None rest budget steps e =
       (Budget budget, ap (λ b. or_else (if b then Some (Budget budget) else None) rest) (eq-eqb steps budget e))
@@ -69,25 +69,25 @@ module _ (guest : Guest) where
   at_budget : (p : Position) → length p.1 ≡ guest.options.budget → Stops p
   at_budget p e =
       let over =
-      or_spent (exited p.0.whole.exit)
-      (or_else (full (live guest.syms (steps_of p.1))) (nobody_ready p.0.whole.line.ready)) guest.options.budget
+      or_spent (exit_end p.0.engine.exit)
+      (or_else (frames_end (live guest.syms (steps_of p.1))) (waiting_end p.0.engine.run_queue.ready)) guest.options.budget
       (length p.1) e in
       (record { end = over.0; tried = None }, going-over p over.0 over.1)
 
-  one_more : (xs : List Taken) (x : Taken) → length (xs ++ x ∷ []) ≡ length xs + 1
+  one_more : (xs : List RunStep) (x : RunStep) → length (xs ++ x ∷ []) ≡ length xs + 1
   one_more [] x = refl
   one_more (y ∷ ys) x = omega (arith, one_more ys x)
 
   -- what is left from a position on
   pub record Rest (p : Position) : Type 0 where
-    pub steps : List Taken
+    pub steps : List RunStep
     pub stop : Stop
-    pub is : IsTrace (going guest) p steps stop
+    pub is : IsTrace (next_step guest) p steps stop
 
   stopped : (p : Position) → Stops p → Rest p
   stopped p s = record { steps = []; stop = s.0; is = record { last = p; run = refl; stop = s.1 } }
 
-  moved : (p : Position) (x : Taken) (q : Position) → going guest p ≡ Ok (x, q) → Rest q → Rest p
+  moved : (p : Position) (x : RunStep) (q : Position) → next_step guest p ≡ Ok (x, q) → Rest q → Rest p
   moved p x q is rest = record {
     steps = x ∷ rest.steps;
     stop = rest.stop;
@@ -104,12 +104,12 @@ module _ (guest : Guest) where
       ]
 
   -- every run within the budget goes on to a trace
-  pub record Whole (past : List Taken) : Type 0 where
-    pub rest : List Taken
+  pub record Whole (past : List RunStep) : Type 0 where
+    pub rest : List RunStep
     pub stop : Stop
     pub is : IsTraceOf guest (past ++ rest) stop
 
-  pub goes_on : (past : List Taken) (m : Seen) → Run (going guest) (start guest) past (m, past)
+  pub goes_on : (past : List RunStep) (m : Machine) → Run (next_step guest) (start guest) past (m, past)
       → length past ≤ guest.options.budget → Whole past
   goes_on past m run few =
       let rest = rest_from (guest.options.budget - length past) (m, past) (omega arith) in
@@ -118,7 +118,7 @@ module _ (guest : Guest) where
         stop = rest.stop;
         is = record {
           last = rest.is.last;
-          run = Run-append (going guest) (start guest) past (m, past) rest.steps rest.is.last run rest.is.run;
+          run = Run-append (next_step guest) (start guest) past (m, past) rest.steps rest.is.last run rest.is.run;
           stop = rest.is.stop;
         };
       }

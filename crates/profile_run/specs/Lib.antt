@@ -1,4 +1,4 @@
-pub mod Guest
+pub mod Program
 pub mod Trace
 pub mod Steps
 pub mod Sizes

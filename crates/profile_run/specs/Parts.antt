@@ -8,7 +8,7 @@ use Rattle.part_dump.specs.Files.{part_name}
 use Rattle.part_dump.specs.Parts.{closed_files, files}
 use Rattle.part_dump.specs.Steps.{Step}
 use Rattle.part_dump.specs.Watching.{Meaning, puts}
-use Rattle.profile_run.specs.Guest.{Guest, head_of_run}
+use Rattle.profile_run.specs.Program.{Program, head_of_run}
 use Rattle.recorder.specs.Rows.{rows_of}
 use Rattle.profile_run.specs.declared.run_end.PartFile.{PartFile}
 
@@ -18,29 +18,29 @@ pub record Writing : Type 0 where
   pub whole : List Step → Option (ThreadNo × ℕ) → List Named
 
 -- nobody watches: the files are those of the segments
-abbrev pub plain_parts : Guest → Writing
+abbrev pub plain_parts : Program → Writing
 plain_parts guest = record {
   at_cuts = λ steps. closed_files (rows_of guest.syms) (head_of_run guest) guest.syms guest.options.base
-      (cuts guest.syms guest.options.asked steps).closed;
+      (cuts guest.syms guest.options.dump_points steps).closed;
   whole = λ steps tried. files (rows_of guest.syms) (head_of_run guest) guest.syms guest.options.base
-      guest.options.asked steps;
+      guest.options.dump_points steps;
 }
 
 -- ---- a watched run
 
 -- what a watch is told in a run up to some steps
-abbrev pub calls_so_far : Guest → List Step → List Call
+abbrev pub calls_so_far : Program → List Step → List Call
 calls_so_far guest steps =
-    closed_calls (rows_of guest.syms) (head_of_run guest) (cuts guest.syms guest.options.asked steps).closed
-    ++ steps_calls (cuts guest.syms guest.options.asked steps).recent
+    closed_calls (rows_of guest.syms) (head_of_run guest) (cuts guest.syms guest.options.dump_points steps).closed
+    ++ steps_calls (cuts guest.syms guest.options.dump_points steps).recent
 
 -- and in a whole run, where this was tried last
-abbrev pub calls_of : Guest → List Step → Option (ThreadNo × ℕ) → List Call
+abbrev pub calls_of : Program → List Step → Option (ThreadNo × ℕ) → List Call
 calls_of guest steps tried =
-    calls (rows_of guest.syms) (head_of_run guest) guest.syms guest.options.asked steps tried
+    calls (rows_of guest.syms) (head_of_run guest) guest.syms guest.options.dump_points steps tried
 
 -- the files have the texts that a watch answers, whose first state is this
-abbrev pub watched_parts : {W : Type 0} → Meaning W → W → Guest → Writing
+abbrev pub watched_parts : {W : Type 0} → Meaning W → W → Program → Writing
 watched_parts meaning watch guest = record {
   at_cuts = λ steps. puts meaning guest.syms guest.options.base watch (calls_so_far guest steps);
   whole = λ steps tried. puts meaning guest.syms guest.options.base watch (calls_of guest steps tried);

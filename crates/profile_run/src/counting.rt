@@ -5,13 +5,13 @@ ghost use Rattle.std.specs.Prelude.{ℕ, List, None, OnOk, is_some, length, true
 ghost use Rattle.part_dump.specs.Cuts.{every_cut};
 ghost use Rattle.event_costs.specs.declared.numbers.ThreadNo.{ThreadNo as ThreadNoValue};
 ghost use Rattle.recorder.specs.Accounts.{account, live};
-ghost use Rattle.profile_run.specs.Guest.{Guest as GuestValue};
-ghost use Rattle.profile_run.specs.Trace.{Taken, exited, full, nobody_ready, or_else, spent, taken};
+ghost use Rattle.profile_run.specs.Program.{Program as ProgramValue};
+ghost use Rattle.profile_run.specs.Trace.{RunStep, exit_end, frames_end, waiting_end, or_else, budget_end, run_step};
 ghost use Rattle.profile_run.specs.inner.Standing.{Begins, CanCount, IsCounted, IsMade, OnlyAdds, Prepares, is_exit};
-ghost use Rattle.guest_sched.specs.Seen.{ended};
+ghost use Rattle.guest_sched.specs.Machine.{ended};
 
-use cache_lru::RunCosts;
 use byte_text::OutOfMemory;
+use cache_lru::RunCosts;
 use event_costs::{End, Event, Noted, ThreadNo};
 use guest_sched::Machine;
 use part_dump::{DumpRule, Watch};
@@ -21,7 +21,7 @@ use sym_map::SymMap;
 
 /// What a step did to the stack of its thread, and whether it is known that it only added to numbers.
 #[derive(Clone, Copy, Debug)]
-pub struct Counted {
+pub struct CountedStep {
     pub noted: Noted,
     pub plain: bool,
 }
@@ -38,9 +38,9 @@ impl Counting {
     /// Whether an end stands before a step is tried: `end_before` says which.
     #[inline(always)]
     pub fn is_over(&self, budget: u64) -> bool
-        ensures over { self.now.machine.given ≡ None → result ≡ is_some (or_else (exited self.now.machine.whole.exit)
-            (or_else (spent budget self.now.machine.whole.sys.guest.steps)
-            (or_else (full (live self.now.recorder)) (nobody_ready self.now.machine.whole.line.ready)))) }
+        ensures over { self.now.machine.given ≡ None → result ≡ is_some (or_else (exit_end self.now.machine.engine.exit)
+            (or_else (budget_end budget self.now.machine.engine.kernel.guest.steps)
+            (or_else (frames_end (live self.now.recorder)) (waiting_end self.now.machine.engine.run_queue.ready)))) }
         ensures shallow { (thread : ThreadNoValue)
             → length (account self.now.recorder thread).frames ≤ live self.now.recorder + 1 }
     {
@@ -59,20 +59,20 @@ impl Counting {
     /// as may be, or no thread is ready. The room for it is made where this is called, and not at each step.
     #[inline(always)]
     pub fn end_before(&self, budget: u64) -> Option<End>
-        ensures { self.now.machine.given ≡ None → result ≡ or_else (exited self.now.machine.whole.exit)
-            (or_else (spent budget self.now.machine.whole.sys.guest.steps)
-            (or_else (full (live self.now.recorder)) (nobody_ready self.now.machine.whole.line.ready))) }
+        ensures { self.now.machine.given ≡ None → result ≡ or_else (exit_end self.now.machine.engine.exit)
+            (or_else (budget_end budget self.now.machine.engine.kernel.guest.steps)
+            (or_else (frames_end (live self.now.recorder)) (waiting_end self.now.machine.engine.run_queue.ready))) }
     {
-        let end = self.end_now(budget);
+        let end = self.end_before_cold(budget);
         end
     }
 
     /// What `end_before` answers.
     #[cold]
-    fn end_now(&self, budget: u64) -> Option<End>
-        ensures { self.now.machine.given ≡ None → result ≡ or_else (exited self.now.machine.whole.exit)
-            (or_else (spent budget self.now.machine.whole.sys.guest.steps)
-            (or_else (full (live self.now.recorder)) (nobody_ready self.now.machine.whole.line.ready))) }
+    fn end_before_cold(&self, budget: u64) -> Option<End>
+        ensures { self.now.machine.given ≡ None → result ≡ or_else (exit_end self.now.machine.engine.exit)
+            (or_else (budget_end budget self.now.machine.engine.kernel.guest.steps)
+            (or_else (frames_end (live self.now.recorder)) (waiting_end self.now.machine.engine.run_queue.ready))) }
     {
         let ended = self.machine.ended();
         let frames = self.recorder.live_frames();
@@ -93,14 +93,14 @@ impl Counting {
     /// for a number of steps. One that stands for a function stands at no such step.
     #[inline(always)]
     pub fn more(&self, rule: &DumpRule, budget: u64) -> u64
-        requires { self.now.machine.whole.sys.guest.steps < budget }
-        ensures turn { result ≤ self.now.machine.whole.line.left - 1 }
-        ensures budget { self.now.machine.whole.sys.guest.steps + result < budget }
-        ensures uncut { (n : ℕ) → self.now.machine.whole.sys.guest.steps < n
-            → n ≤ self.now.machine.whole.sys.guest.steps + result → every_cut rule.now.asked.every n ≡ None }
+        requires { self.now.machine.engine.kernel.guest.steps < budget }
+        ensures turn { result ≤ self.now.machine.engine.run_queue.steps_left - 1 }
+        ensures budget { self.now.machine.engine.kernel.guest.steps + result < budget }
+        ensures uncut { (n : ℕ) → self.now.machine.engine.kernel.guest.steps < n
+            → n ≤ self.now.machine.engine.kernel.guest.steps + result → every_cut rule.now.dump_points.every n ≡ None }
     {
         let steps = self.machine.steps();
-        let turn = u64::from(self.machine.left()).saturating_sub(1);
+        let turn = u64::from(self.machine.steps_left()).saturating_sub(1);
         let spare = budget - steps - 1;
         turn.min(spare).min(rule.steps_to_cut(steps))
     }
@@ -131,29 +131,29 @@ impl Counting {
         rule: &DumpRule,
         watch: &mut W,
         syms: &SymMap,
-    ) -> Counted
+    ) -> CountedStep
         requires { CanCount W.meaning W.fresh syms.now event.now self.old.machine self.old.costs self.old.recorder
             watch.old }
-        ensures counted { (guest : GuestValue) (first : W) (past : List Taken)
+        ensures counted { (guest : ProgramValue) (first : W) (past : List RunStep)
             → (made : IsMade W.meaning guest first past event.now self.old.machine self.old.costs self.old.recorder
             watch.old)
             → guest.syms ≡ syms.now → guest.options.budget ≤ 10 ^ 12
-            → IsCounted W.meaning guest first past (taken guest past made.told) rule.now.after result.noted
+            → IsCounted W.meaning guest first past (run_step guest past made.told) rule.now.after result.noted
             self.new.machine self.new.costs self.new.recorder watch.new }
         ensures machine { self.new.machine ≡ self.old.machine }
         ensures plain { result.plain ≡ true
             → OnlyAdds event.now.thread result.noted self.old.recorder self.new.recorder }
     {
         let Some(ones) = self.costs.plain_ones(event) else {
-            let noted = self.count_apart(event, rule, watch, syms);
-            return Counted {
+            let noted = self.count_shell(event, rule, watch, syms);
+            return CountedStep {
                 noted,
                 plain: false,
             };
         };
         if !self.recorder.is_plain(event, syms) {
-            let noted = self.count_apart(event, rule, watch, syms);
-            return Counted {
+            let noted = self.count_shell(event, rule, watch, syms);
+            return CountedStep {
                 noted,
                 plain: false,
             };
@@ -169,13 +169,13 @@ impl Counting {
             self.machine.last_woken(),
             syms,
         );
-        Counted { noted, plain: true }
+        CountedStep { noted, plain: true }
     }
 
     /// What `count` does, with a copy of the event, whose address the loop of a run needn't keep then. What seldom comes
     /// calls it, so that `count` is laid into that loop: it is called there alone.
     #[inline(always)]
-    pub fn count_apart<W: Watch>(
+    pub fn count_shell<W: Watch>(
         &mut self,
         event: &Event,
         rule: &DumpRule,
@@ -184,16 +184,16 @@ impl Counting {
     ) -> Noted
         requires { CanCount W.meaning W.fresh syms.now event.now self.old.machine self.old.costs self.old.recorder
             watch.old }
-        ensures counted { (guest : GuestValue) (first : W) (past : List Taken)
+        ensures counted { (guest : ProgramValue) (first : W) (past : List RunStep)
             → (made : IsMade W.meaning guest first past event.now self.old.machine self.old.costs self.old.recorder
             watch.old)
             → guest.syms ≡ syms.now → guest.options.budget ≤ 10 ^ 12
-            → IsCounted W.meaning guest first past (taken guest past made.told) rule.now.after result
+            → IsCounted W.meaning guest first past (run_step guest past made.told) rule.now.after result
             self.new.machine self.new.costs self.new.recorder watch.new }
         ensures machine { self.new.machine ≡ self.old.machine }
     {
         let event = event.copied();
-        let noted = self.count_any(&event, rule, watch, syms);
+        let noted = self.count_cold(&event, rule, watch, syms);
         noted
     }
 
@@ -201,7 +201,7 @@ impl Counting {
     /// seldom, so that such a step has the registers.
     #[cold]
     #[inline(never)]
-    fn count_any<W: Watch>(
+    fn count_cold<W: Watch>(
         &mut self,
         event: &Event,
         rule: &DumpRule,
@@ -210,11 +210,11 @@ impl Counting {
     ) -> Noted
         requires { CanCount W.meaning W.fresh syms.now event.now self.old.machine self.old.costs self.old.recorder
             watch.old }
-        ensures counted { (guest : GuestValue) (first : W) (past : List Taken)
+        ensures counted { (guest : ProgramValue) (first : W) (past : List RunStep)
             → (made : IsMade W.meaning guest first past event.now self.old.machine self.old.costs self.old.recorder
             watch.old)
             → guest.syms ≡ syms.now → guest.options.budget ≤ 10 ^ 12
-            → IsCounted W.meaning guest first past (taken guest past made.told) rule.now.after result
+            → IsCounted W.meaning guest first past (run_step guest past made.told) rule.now.after result
             self.new.machine self.new.costs self.new.recorder watch.new }
         ensures machine { self.new.machine ≡ self.old.machine }
     {
@@ -257,14 +257,14 @@ fn prepare(
     if recorder.is_remembered(thread) {
         return Ok(());
     }
-    prepare_anew(recorder, thread, pc, syms)
+    prepare_cold(recorder, thread, pc, syms)
 }
 
 /// What `prepare` does where the thread isn't remembered as ready. It has a frame of its own, so that a thread which is
 /// needs none.
 #[cold]
 #[inline(never)]
-fn prepare_anew(
+fn prepare_cold(
     recorder: &mut Recorder,
     thread: ThreadNo,
     pc: u32,

@@ -1,7 +1,6 @@
 //! The run of a program: from the loaded guest to its last part.
 #![tactic(auto)]
 
-mod begun;
 mod counting;
 mod laws;
 mod options;
@@ -10,6 +9,7 @@ mod parts;
 mod run_end;
 mod run_fault;
 mod running;
+mod started_run;
 
 pub use laws::{
     every_guest_has_one_trace, no_sum_passes_its_type, parts_have_names_of_their_own,

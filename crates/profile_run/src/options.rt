@@ -30,7 +30,7 @@ pub struct RunOptions {
 
 impl Model for RunOptions {
     ghost use Rattle.std.specs.Prelude.{option_map, string_bytes};
-    ghost use Rattle.profile_run.specs.Guest.{Options};
+    ghost use Rattle.profile_run.specs.Program.{Options};
 
     ghost Value = { Options };
 
@@ -40,7 +40,7 @@ impl Model for RunOptions {
       quantum = o.turns.quantum;
       seed = o.turns.seed;
       shapes = record { i1 = o.i1; d1 = o.d1; ll = o.ll };
-      asked = record {
+      dump_points = record {
         every = o.every;
         before = option_map string_bytes o.before;
         after = option_map string_bytes o.after;

@@ -24,9 +24,9 @@ pub struct RunEnd {
 }
 
 impl Model for RunEnd {
-    ghost use Rattle.profile_run.specs.Runs.{Ended};
+    ghost use Rattle.profile_run.specs.Runs.{RunEnd};
 
-    ghost Value = { Ended };
+    ghost Value = { RunEnd };
 
     ghost view = { λ r. record { end = r.end; steps = r.steps; threads = r.threads; parts = r.parts.items } };
 }

@@ -5,30 +5,30 @@ ghost use Rattle.std.specs.Prelude.{Some, IfOk, IfSome, is_some, length, map, tr
 ghost use Rattle.std.specs.Prelude.{string_bytes};
 ghost use Rattle.outside.specs.Outside.{Shelf, Stream, outside_of, outside_with, shelf_of};
 ghost use Rattle.part_dump.specs.Watching.{after_calls};
-ghost use Rattle.profile_run.specs.Guest.{Guest as GuestValue};
+ghost use Rattle.profile_run.specs.Program.{Program as ProgramValue};
 ghost use Rattle.profile_run.specs.Parts.{calls_of, plain_parts, watched_parts};
 ghost use Rattle.profile_run.specs.Runs.{Answers};
-ghost use Rattle.profile_run.specs.Trace.{IsTraceOf, Stop, Taken, steps_of};
+ghost use Rattle.profile_run.specs.Trace.{IsTraceOf, Stop, RunStep, steps_of};
 ghost use Rattle.event_costs.specs.declared.numbers.ThreadNo.{ThreadNo};
 ghost use Rattle.recorder.specs.Accounts.{knows, live};
-ghost use Rattle.guest_sched.specs.Seen.{halt_of};
-ghost use Rattle.part_dump.specs.Cuts.{Asked, cut_after};
+ghost use Rattle.guest_sched.specs.Machine.{halt_of};
+ghost use Rattle.part_dump.specs.Cuts.{DumpPoints, cut_after};
 ghost use Rattle.part_dump.specs.Rules.{IsNotedOf, IsRuleOf, due_after};
-ghost use Rattle.shadow_stack.specs.Traces.{Seen};
+ghost use Rattle.shadow_stack.specs.Traces.{EventOnStack};
 ghost use Rattle.sym_map.specs.SymbolMap.{SymbolMap};
 ghost use Rattle.profile_run.specs.inner.Standing.{Advances, CanCut, CanPut, CutsAny, GoesOn, HasPut, IsJob, IsPutting};
 ghost use Rattle.profile_run.specs.inner.Standing.{IsStarted, IsUncut, IsWritten, Job, MayFollow};
 ghost use Rattle.profile_run.specs.inner.Standing.{Plan, PutsThreads, RunsJob, RunsToEnd};
 ghost use Rattle.profile_run.specs.inner.Standing.{Standing, calls_below, files_after, files_at};
 
-use crate::begun::{Begun, begin, rule_of};
 use crate::options::RunOptions;
 use crate::output::write_output;
 use crate::run_end::RunEnd;
 use crate::run_fault::RunFault;
+use crate::started_run::{StartedRun, begin, rule_of};
+use byte_text::OutOfMemory;
 use cg_format::Trigger;
 use elf_read::Elf;
-use byte_text::OutOfMemory;
 use event_costs::{Branch, Done, End, Event, Noted, Touch};
 use guest_sched::{Halt, Turn};
 use outside::{Folder, Sink};
@@ -73,8 +73,8 @@ pub fn run<F: Folder, O: Sink, E: Sink>(
     requires some_steps { 1 ≤ options.now.budget }
     requires few_steps { options.now.budget ≤ 10 ^ 12 }
     requires turns { 1 ≤ options.now.quantum }
-    requires every { IfSome options.now.asked.every (λ n. 0 < n) }
-    ensures answer { let guest : GuestValue = record {
+    requires every { IfSome options.now.dump_points.every (λ n. 0 < n) }
+    ensures answer { let guest : ProgramValue = record {
       image = elf.now;
       syms = syms.now;
       args = map string_bytes args.now;
@@ -121,9 +121,9 @@ pub fn run_watched<F: Folder, O: Sink, E: Sink, W: Watch>(
     requires some_steps { 1 ≤ options.now.budget }
     requires few_steps { options.now.budget ≤ 10 ^ 12 }
     requires turns { 1 ≤ options.now.quantum }
-    requires every { IfSome options.now.asked.every (λ n. 0 < n) }
+    requires every { IfSome options.now.dump_points.every (λ n. 0 < n) }
     requires fresh { W.fresh watch.old syms.now }
-    ensures answer { let guest : GuestValue = record {
+    ensures answer { let guest : ProgramValue = record {
       image = elf.now;
       syms = syms.now;
       args = map string_bytes args.now;
@@ -139,8 +139,8 @@ pub fn run_watched<F: Folder, O: Sink, E: Sink, W: Watch>(
     ensures out_faults_never_fall { O.faults out.old ≤ O.faults out.new }
     ensures err_faults_never_fall { E.faults err.old ≤ E.faults err.new }
     // The watch was told of the whole run.
-    ensures watched { IfOk result (λ _. (trace : List Taken) (stop : Stop) →
-        let guest : GuestValue = record {
+    ensures watched { IfOk result (λ _. (trace : List RunStep) (stop : Stop) →
+        let guest : ProgramValue = record {
           image = elf.now;
           syms = syms.now;
           args = map string_bytes args.now;
@@ -157,11 +157,11 @@ pub fn run_watched<F: Folder, O: Sink, E: Sink, W: Watch>(
         input,
         options,
     };
-    run_job(alloc, program, watch, folder, out, err)
+    begin_and_run(alloc, program, watch, folder, out, err)
 }
 
 /// Loads a program and runs it: a job is what it is of, and what the outside and the watch were before it.
-fn run_job<F: Folder, O: Sink, E: Sink, W: Watch>(
+fn begin_and_run<F: Folder, O: Sink, E: Sink, W: Watch>(
     alloc: Global,
     program: Program<'_>,
     watch: &mut W,
@@ -173,7 +173,7 @@ fn run_job<F: Folder, O: Sink, E: Sink, W: Watch>(
     requires named { 0 < length program.args.now }
     requires few_steps { program.options.now.budget ≤ 10 ^ 12 }
     requires turns { 1 ≤ program.options.now.quantum }
-    requires every { IfSome program.options.now.asked.every (λ n. 0 < n) }
+    requires every { IfSome program.options.now.dump_points.every (λ n. 0 < n) }
     requires fresh { W.fresh watch.old program.syms.now }
     requires guest { job.guest ≡ record {
       image = program.elf.now;
@@ -207,7 +207,7 @@ fn run_job<F: Folder, O: Sink, E: Sink, W: Watch>(
 
 /// Runs a guest to its end, and puts its parts.
 fn run_to_end<F: Folder, O: Sink, E: Sink, W: Watch>(
-    begun: &mut Begun,
+    begun: &mut StartedRun,
     order: &Order<'_>,
     watch: &mut W,
     folder: &mut F,
@@ -234,7 +234,7 @@ fn run_to_end<F: Folder, O: Sink, E: Sink, W: Watch>(
 /// Makes one step or more, with all that belongs to them, or says how the run ends.
 #[inline(always)]
 fn advance<F: Folder, O: Sink, E: Sink, W: Watch>(
-    begun: &mut Begun,
+    begun: &mut StartedRun,
     order: &Order<'_>,
     watch: &mut W,
     folder: &mut F,
@@ -245,7 +245,7 @@ fn advance<F: Folder, O: Sink, E: Sink, W: Watch>(
     requires job { IsJob W.fresh job order.now }
     requires stands { Standing W.meaning job begun.old.counting begun.old.parts watch.old
         (outside_of F.Folder O.Sink E.Sink folder.old out.old err.old) }
-    ensures { Advances W.meaning job (begun.old.counting.machine.whole.sys.guest.steps + 1) result begun.new.counting
+    ensures { Advances W.meaning job (begun.old.counting.machine.engine.kernel.guest.steps + 1) result begun.new.counting
         begun.new.parts
         watch.new
         (outside_of F.Folder O.Sink E.Sink folder.new out.new err.new) }
@@ -265,7 +265,7 @@ fn advance<F: Folder, O: Sink, E: Sink, W: Watch>(
 /// numbers, so that ends and cuts are looked for once for all of them.
 #[inline(always)]
 fn run_stretch<F: Folder, O: Sink, E: Sink, W: Watch>(
-    begun: &mut Begun,
+    begun: &mut StartedRun,
     order: &Order<'_>,
     watch: &mut W,
     folder: &mut F,
@@ -276,7 +276,7 @@ fn run_stretch<F: Folder, O: Sink, E: Sink, W: Watch>(
     requires job { IsJob W.fresh job order.now }
     requires started { IsStarted W.meaning job begun.old.counting begun.old.parts watch.old
         (outside_of F.Folder O.Sink E.Sink folder.old out.old err.old) }
-    ensures { Advances W.meaning job (begun.old.counting.machine.whole.sys.guest.steps + 1) result begun.new.counting
+    ensures { Advances W.meaning job (begun.old.counting.machine.engine.kernel.guest.steps + 1) result begun.new.counting
         begun.new.parts
         watch.new
         (outside_of F.Folder O.Sink E.Sink folder.new out.new err.new) }
@@ -305,7 +305,7 @@ pub enum Stretch {
 /// begins the next one.
 #[inline(always)]
 fn step<F: Folder, O: Sink, E: Sink, W: Watch>(
-    begun: &mut Begun,
+    begun: &mut StartedRun,
     order: &Order<'_>,
     more: u64,
     watch: &mut W,
@@ -318,7 +318,7 @@ fn step<F: Folder, O: Sink, E: Sink, W: Watch>(
     requires started { IsStarted W.meaning job begun.old.counting begun.old.parts watch.old
         (outside_of F.Folder O.Sink E.Sink folder.old out.old err.old) }
     requires may { MayFollow order.now.options.now begun.old.counting.machine more }
-    ensures { GoesOn W.meaning job order.now.options.now more (begun.old.counting.machine.whole.sys.guest.steps + 1)
+    ensures { GoesOn W.meaning job order.now.options.now more (begun.old.counting.machine.engine.kernel.guest.steps + 1)
         result begun.new.counting
         begun.new.parts watch.new
         (outside_of F.Folder O.Sink E.Sink folder.new out.new err.new) }
@@ -343,10 +343,10 @@ fn step<F: Folder, O: Sink, E: Sink, W: Watch>(
     }
 }
 
-/// What `halted_step` does. The room for its answer is made where it is called, and not at each step.
+/// What `step_halted_cold` does. The room for its answer is made where it is called, and not at each step.
 #[inline(always)]
 fn step_halted<F: Folder, O: Sink, E: Sink, W: Watch>(
-    begun: &mut Begun,
+    begun: &mut StartedRun,
     order: &Order<'_>,
     halt: Halt,
     watch: &mut W,
@@ -359,20 +359,20 @@ fn step_halted<F: Folder, O: Sink, E: Sink, W: Watch>(
     requires started { IsStarted W.meaning job begun.old.counting begun.old.parts watch.old
         (outside_of F.Folder O.Sink E.Sink folder.old out.old err.old) }
     requires halted { halt_of begun.old.counting.machine ≡ Some halt }
-    ensures { Advances W.meaning job (begun.old.counting.machine.whole.sys.guest.steps + 1) result begun.new.counting
+    ensures { Advances W.meaning job (begun.old.counting.machine.engine.kernel.guest.steps + 1) result begun.new.counting
         begun.new.parts
         watch.new
         (outside_of F.Folder O.Sink E.Sink folder.new out.new err.new) }
 {
-    let halted = halted_step(begun, order, halt, watch, folder, out, err);
+    let halted = step_halted_cold(begun, order, halt, watch, folder, out, err);
     halted
 }
 
 /// Makes the step that its thread has begun, where its instruction doesn't retire. Apart, so that the loop of a run
 /// keeps no room for what a system call answers.
 #[cold]
-fn halted_step<F: Folder, O: Sink, E: Sink, W: Watch>(
-    begun: &mut Begun,
+fn step_halted_cold<F: Folder, O: Sink, E: Sink, W: Watch>(
+    begun: &mut StartedRun,
     order: &Order<'_>,
     halt: Halt,
     watch: &mut W,
@@ -385,7 +385,7 @@ fn halted_step<F: Folder, O: Sink, E: Sink, W: Watch>(
     requires started { IsStarted W.meaning job begun.old.counting begun.old.parts watch.old
         (outside_of F.Folder O.Sink E.Sink folder.old out.old err.old) }
     requires halted { halt_of begun.old.counting.machine ≡ Some halt }
-    ensures { Advances W.meaning job (begun.old.counting.machine.whole.sys.guest.steps + 1) result begun.new.counting
+    ensures { Advances W.meaning job (begun.old.counting.machine.engine.kernel.guest.steps + 1) result begun.new.counting
         begun.new.parts
         watch.new
         (outside_of F.Folder O.Sink E.Sink folder.new out.new err.new) }
@@ -394,13 +394,13 @@ fn halted_step<F: Folder, O: Sink, E: Sink, W: Watch>(
         Ok(Turn::Retired(event)) => {
             let noted = begun
                 .counting
-                .count_apart(&event, &order.rule, watch, order.syms);
+                .count_shell(&event, &order.rule, watch, order.syms);
             finish_step(begun, order, &noted, watch, folder)
         }
         Ok(Turn::RetiredOutput(event, descriptor, bytes)) => {
             let noted = begun
                 .counting
-                .count_apart(&event, &order.rule, watch, order.syms);
+                .count_shell(&event, &order.rule, watch, order.syms);
             write_output(out, err, descriptor, bytes.as_bytes())?;
             finish_step(begun, order, &noted, watch, folder)
         }
@@ -412,7 +412,7 @@ fn halted_step<F: Folder, O: Sink, E: Sink, W: Watch>(
 /// Cuts the run where that is due after a step of which all else is done.
 #[inline(always)]
 fn finish_step<F: Folder, W: Watch>(
-    begun: &mut Begun,
+    begun: &mut StartedRun,
     order: &Order<'_>,
     noted: &Noted,
     watch: &mut W,
@@ -424,7 +424,7 @@ fn finish_step<F: Folder, W: Watch>(
     ensures { (out err : Stream) → IsWritten W.meaning job order.now.rule.after noted.now begun.old.counting
         begun.old.parts watch.old
         (outside_with F.Folder folder.old out err)
-        → Advances W.meaning job begun.old.counting.machine.whole.sys.guest.steps result begun.new.counting
+        → Advances W.meaning job begun.old.counting.machine.engine.kernel.guest.steps result begun.new.counting
         begun.new.parts watch.new
         (outside_with F.Folder folder.new out err) }
 {
@@ -435,7 +435,7 @@ fn finish_step<F: Folder, W: Watch>(
 /// Cuts the run after a step where that is due: puts the parts of the segment that ends there.
 #[inline(always)]
 fn cut<F: Folder, W: Watch>(
-    begun: &mut Begun,
+    begun: &mut StartedRun,
     order: &Order<'_>,
     noted: &Noted,
     watch: &mut W,
@@ -456,13 +456,13 @@ fn cut<F: Folder, W: Watch>(
     if begun.parts.head.part > MOST_CUTS {
         return Ok(());
     }
-    cut_here(begun, order, steps, *noted, watch, folder)
+    cut_shell(begun, order, steps, *noted, watch, folder)
 }
 
-/// What `cut_now` does. The room for its answer is made where it is called, and not at each step.
+/// What `cut_cold` does. The room for its answer is made where it is called, and not at each step.
 #[inline(always)]
-fn cut_here<F: Folder, W: Watch>(
-    begun: &mut Begun,
+fn cut_shell<F: Folder, W: Watch>(
+    begun: &mut StartedRun,
     order: &Order<'_>,
     steps: u64,
     noted: Noted,
@@ -471,9 +471,9 @@ fn cut_here<F: Folder, W: Watch>(
 ) -> Result<(), RunFault>
     requires can { CanCut W.meaning W.fresh order.now noted begun.old watch.old }
     requires few { begun.old.parts.head.part ≤ 4095 }
-    requires made { steps ≡ begun.old.counting.machine.whole.sys.guest.steps }
+    requires made { steps ≡ begun.old.counting.machine.engine.kernel.guest.steps }
     requires due { is_some (due_after order.now.rule steps noted) ≡ true }
-    requires cut { (symbols : SymbolMap) (asked : Asked) (x : Seen) → IsRuleOf symbols asked order.now.rule
+    requires cut { (symbols : SymbolMap) (asked : DumpPoints) (x : EventOnStack) → IsRuleOf symbols asked order.now.rule
         → IsNotedOf symbols order.now.rule.after x noted → is_some (cut_after symbols asked steps x) ≡ true }
     ensures cuts { CutsAny W.meaning order.now noted begun.old watch.old (shelf_of F.Folder folder.old)
         (F.put_faults folder.old) result begun.new watch.new (shelf_of F.Folder folder.new)
@@ -482,14 +482,14 @@ fn cut_here<F: Folder, W: Watch>(
     ensures never_falls { F.put_faults folder.old ≤ F.put_faults folder.new }
     ensures loads { F.load_faults folder.new ≡ F.load_faults folder.old }
 {
-    let made = cut_now(begun, order, steps, noted, watch, folder);
+    let made = cut_cold(begun, order, steps, noted, watch, folder);
     made
 }
 
 /// Cuts the run after so many steps, where that is due.
 #[cold]
-fn cut_now<F: Folder, W: Watch>(
-    begun: &mut Begun,
+fn cut_cold<F: Folder, W: Watch>(
+    begun: &mut StartedRun,
     order: &Order<'_>,
     steps: u64,
     noted: Noted,
@@ -498,9 +498,9 @@ fn cut_now<F: Folder, W: Watch>(
 ) -> Result<(), RunFault>
     requires can { CanCut W.meaning W.fresh order.now noted begun.old watch.old }
     requires few { begun.old.parts.head.part ≤ 4095 }
-    requires made { steps ≡ begun.old.counting.machine.whole.sys.guest.steps }
+    requires made { steps ≡ begun.old.counting.machine.engine.kernel.guest.steps }
     requires due { is_some (due_after order.now.rule steps noted) ≡ true }
-    requires cut { (symbols : SymbolMap) (asked : Asked) (x : Seen) → IsRuleOf symbols asked order.now.rule
+    requires cut { (symbols : SymbolMap) (asked : DumpPoints) (x : EventOnStack) → IsRuleOf symbols asked order.now.rule
         → IsNotedOf symbols order.now.rule.after x noted → is_some (cut_after symbols asked steps x) ≡ true }
     ensures cuts { CutsAny W.meaning order.now noted begun.old watch.old (shelf_of F.Folder folder.old)
         (F.put_faults folder.old) result begun.new watch.new (shelf_of F.Folder folder.new)
@@ -522,7 +522,7 @@ fn cut_now<F: Folder, W: Watch>(
 /// Puts the parts of the segment that ends after the last step.
 #[cold]
 fn put_segment<F: Folder, W: Watch>(
-    begun: &mut Begun,
+    begun: &mut StartedRun,
     order: &Order<'_>,
     watch: &mut W,
     folder: &mut F,
@@ -535,7 +535,7 @@ fn put_segment<F: Folder, W: Watch>(
         (files_after W.meaning plan (calls_below plan begun.old.parts.head.part begun.old.parts.head.trigger 1))
         plan.folder (shelf_of F.Folder folder.old) begun.old.parts.put.items
         → PutsThreads W.meaning plan begun.old.parts.head.part begun.old.parts.head.trigger
-        (begun.old.counting.machine.whole.sys.guest.made + 1) (F.put_faults folder.old)
+        (begun.old.counting.machine.engine.kernel.guest.made + 1) (F.put_faults folder.old)
         result begun.new.parts begun.new.counting.recorder watch.new (shelf_of F.Folder folder.new) (F.put_faults
         folder.new) }
     ensures known { (other : ThreadNo) → knows begun.new.counting.recorder other ≡ knows begun.old.counting.recorder

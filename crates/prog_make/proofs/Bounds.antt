@@ -14,7 +14,7 @@ use Rattle.prog_make.specs.Functions.{holds, lies_in, has_lines, is_executable, 
 use Rattle.prog_make.specs.inner.Conditions.{IsPlaced, covers, AreFit}
 use Rattle.prog_make.specs.inner.LineProgram.{first_row_bytes, end_bytes, next_row, padded_leb128, sequence_bytes}
 use Rattle.prog_make.specs.inner.LineProgram.{program_bytes}
-use Rattle.prog_make.specs.inner.Strings.{ended, section_strings}
+use Rattle.prog_make.specs.inner.Strings.{with_zero, section_strings}
 use Rattle.prog_make.specs.inner.Symbols.{symbol_bytes, symbols_bytes, symbol_entries, entries_from}
 use Rattle.prog_make.specs.inner.Tail.{headers_offset}
 use Rattle.prog_make.proofs.Reading.{length-entries}
@@ -156,14 +156,14 @@ length-symbols segments functions =
     omega arith
 
 length-names : (functions : List FunctionPart)
-    → length (flat_map (λ f. ended f.name) functions) + 1023 * length functions
+    → length (flat_map (λ f. with_zero f.name) functions) + 1023 * length functions
     ≡ sum_by (λ f. length f.name + 1024) functions
 length-names [] = refl
 length-names (f ∷ functions) =
     let rest = length-names functions in
     let sum = sum_by-cons (λ (g : FunctionPart). length g.name + 1024) f functions in
     let here = length-append f.name (0 ∷ []) in
-    let both = length-append (ended f.name) (flat_map (λ g. ended g.name) functions) in
+    let both = length-append (with_zero f.name) (flat_map (λ g. with_zero g.name) functions) in
     omega arith
 
 pub length-section_strings : length section_strings ≡ 51

@@ -6,7 +6,7 @@ use Rattle.prog_make.specs.SegmentContent.{SegmentContent}
 use Rattle.prog_make.specs.Parts.{Parts}
 use Rattle.prog_make.specs.Conditions.{IsLoadable, AreSegmentsSound, CanBeMade}
 use Rattle.prog_make.specs.inner.Conditions.{IsPlaced, AreSegmentsFit, AreFit}
-use Rattle.prog_make.specs.Programs.{placed_at, placed_from, content_offset}
+use Rattle.prog_make.specs.Programs.{placed_at, file_segments_from, content_offset}
 use Rattle.prog_make.proofs.SegmentsRead.{All-rest, All-more, count_placed, code_placed}
 
 loadable_placed : (offset : ℕ) (s : SegmentContent) → IsLoadable (placed_at offset s) → IsPlaced s
@@ -27,19 +27,19 @@ placed_loadable offset s is = record {
   ) refl;
 }
 
-all_placed : (offset : ℕ) (segments : List SegmentContent) → All IsLoadable (placed_from offset segments)
+all_placed : (offset : ℕ) (segments : List SegmentContent) → All IsLoadable (file_segments_from offset segments)
     → All IsPlaced segments
 all_placed offset [] all = λ k d lt. absurd (omega arith)
 all_placed offset (s ∷ segments) all =
     All-more IsPlaced s segments (loadable_placed offset s (all 0 (placed_at offset s) (omega arith)))
     (all_placed (offset + length s.bytes) segments
-    (All-rest IsLoadable (placed_at offset s) (placed_from (offset + length s.bytes) segments) all))
+    (All-rest IsLoadable (placed_at offset s) (file_segments_from (offset + length s.bytes) segments) all))
 
 all_loadable : (offset : ℕ) (segments : List SegmentContent) → All IsPlaced segments
-    → All IsLoadable (placed_from offset segments)
+    → All IsLoadable (file_segments_from offset segments)
 all_loadable offset [] all = λ k d lt. absurd (omega arith)
 all_loadable offset (s ∷ segments) all =
-    All-more IsLoadable (placed_at offset s) (placed_from (offset + length s.bytes) segments)
+    All-more IsLoadable (placed_at offset s) (file_segments_from (offset + length s.bytes) segments)
     (placed_loadable offset s (all 0 s (omega arith)))
     (all_loadable (offset + length s.bytes) segments (All-rest IsPlaced s segments all))
 

@@ -36,18 +36,18 @@ use Rattle.prog_make.specs.Parts.{Parts, content_len}
 use Rattle.prog_make.specs.Functions.{holds, lies_in, has_lines, is_executable, IsWhole, section_number}
 use Rattle.prog_make.specs.inner.Conditions.{AreFit}
 use Rattle.prog_make.specs.inner.Strings.{name_strings, section_strings}
-use Rattle.prog_make.specs.Programs.{placed, placed_from, content_offset}
+use Rattle.prog_make.specs.Programs.{file_segments, file_segments_from, content_offset}
 use Rattle.prog_make.specs.inner.Sections.{section_headers, table_sections, section_bytes, sections_bytes}
 use Rattle.prog_make.specs.inner.Sections.{segment_section, null_section, table_section, symbol_section}
 use Rattle.prog_make.specs.inner.Symbols.{symbol_entries, symbol_bytes, symbols_bytes, undefined_entry, entries_from}
 use Rattle.prog_make.specs.inner.LineSection.{line_section}
 use Rattle.prog_make.specs.inner.Tail.{table_lengths, tables_offset, headers_offset, headers_of, tail_of}
-use Rattle.prog_make.specs.inner.Made.{full_header, full_file, plain_header, plain_file, file_for, file_of}
+use Rattle.prog_make.specs.inner.ElfFile.{full_header, full_file, plain_header, plain_file, file_for, file_of}
 use Rattle.prog_make.specs.Contents.{segment_in, symbol_in, function_symbol, undefined_symbol, function_symbols}
 use Rattle.prog_make.specs.Contents.{symbols_for, function_line, HasCode, lines_of, line_made}
 use Rattle.prog_make.proofs.Reading.{length-entries}
-use Rattle.prog_make.proofs.SegmentsRead.{All-more, All-rest, IsGood, length-placed_from}
-use Rattle.prog_make.proofs.ElfRead.{IsSound, length-made, header_is, contents_are, good, refusal-made, segments-made}
+use Rattle.prog_make.proofs.SegmentsRead.{All-more, All-rest, IsGood, length-file_segments_from}
+use Rattle.prog_make.proofs.ElfRead.{IsSound, length-elf_file, header_is, contents_are, good, refusal-elf_file, segments-elf_file}
 use Rattle.prog_make.proofs.Bounds.{tables_fit, entry_in, in_code_below, length-section_strings, length-symbol_bytes}
 use Rattle.prog_make.proofs.StringsRead.{text_at}
 use Rattle.prog_make.proofs.SectionsRead.{IsFine, HasHeaders, header_read, length-section_bytes, section_header-is}
@@ -166,8 +166,8 @@ headers_fine len tables lengths segments short room goods =
 module _ (parts : Parts) (can : AreFit parts) (flags : All (λ s. s.flags < 2 ^ 32) parts.segments) where
   length-headers : length (headers_of parts) ≡ 5 + length parts.segments
   length-headers =
-      let a = length-placed_from (content_offset parts.segments) parts.segments in
-      let b = length-map (placed parts.segments) segment_section in
+      let a = length-file_segments_from (content_offset parts.segments) parts.segments in
+      let b = length-map (file_segments parts.segments) segment_section in
       omega arith
 
   length-tail : length (tail_of parts)
@@ -247,7 +247,7 @@ module _ (parts : Parts) (can : AreFit parts) (flags : All (λ s. s.flags < 2 ^ 
       (table_lengths parts).strings) names_at
 
   length-file : length (full_file parts) ≡ headers_offset parts + 40 * (5 + length parts.segments)
-  length-file = let a = length-made (full_header parts) parts.segments (tail_of parts) in let b =
+  length-file = let a = length-elf_file (full_header parts) parts.segments (tail_of parts) in let b =
       length-tail in omega arith
 
   pub has_headers : HasHeaders (full_file parts) (headers_of parts) (headers_offset parts)
@@ -267,7 +267,7 @@ module _ (parts : Parts) (can : AreFit parts) (flags : All (λ s. s.flags < 2 ^ 
         at = headers_at;
         whole = omega arith;
         fine = headers_fine (length (full_file parts)) (tables_offset parts) (table_lengths parts)
-            (placed parts.segments) (omega arith) (omega arith)
+            (file_segments parts.segments) (omega arith) (omega arith)
             (good (full_header parts) parts.segments (tail_of parts) sound);
         names_header = λ d. refl;
         names_rest = sections_bytes (headers_of parts);
@@ -277,7 +277,7 @@ module _ (parts : Parts) (can : AreFit parts) (flags : All (λ s. s.flags < 2 ^ 
   -- ---- what is read
 
   accepted : refusal (full_file parts) ≡ None
-  accepted = refusal-made (full_header parts) parts.segments
+  accepted = refusal-elf_file (full_header parts) parts.segments
       (tail_of parts) sound can.segments.apart can.segments.entry_aligned can.segments.entry_in_code
       (sections_are_whole (full_file parts) (headers_of parts) (headers_offset parts)
       (tables_offset parts + (table_lengths parts).lines + (table_lengths parts).symbols +
@@ -340,12 +340,12 @@ module _ (parts : Parts) (can : AreFit parts) (flags : All (λ s. s.flags < 2 ^ 
         names = record { start = names; end = names + length strings };
       } =
       ap (elf.symbol_table_in (full_file parts))
-      (symbol_section-is (full_file parts) (tables_offset parts) (table_lengths parts) (placed parts.segments)
+      (symbol_section-is (full_file parts) (tables_offset parts) (table_lengths parts) (file_segments parts.segments)
       (headers_offset parts) (tables_offset parts + (table_lengths parts).lines + (table_lengths parts).symbols +
       (table_lengths parts).strings) has_headers)
       ∙ same_table place place ((table_lengths parts).symbols / 16) (length entries) (strings_of (full_file parts) 3)
       (record { start = names; end = names + length strings }) refl whole
-      (symbol_strings-are (full_file parts) (tables_offset parts) (table_lengths parts) (placed parts.segments)
+      (symbol_strings-are (full_file parts) (tables_offset parts) (table_lengths parts) (file_segments parts.segments)
       (headers_offset parts) (tables_offset parts + (table_lengths parts).lines + (table_lengths parts).symbols +
       (table_lengths parts).strings) has_headers) in
       ap (λ t. map (symbol_in (full_file parts)) (table (elf.symbol_in (full_file parts) t) t.count)) table_is
@@ -359,19 +359,19 @@ module _ (parts : Parts) (can : AreFit parts) (flags : All (λ s. s.flags < 2 ^ 
   section-is : (j : ℕ) → j < length parts.segments
       → slice_get (sections_of (full_file parts)) (5 + j)
       ≡ Some (section_of (full_file parts)
-      (header_read (segment_section (get_or (placed parts.segments) j no_segment))))
+      (header_read (segment_section (get_or (file_segments parts.segments) j no_segment))))
   unfolding section_at
   section-is j lt =
       let len = length-headers in
-      let placed_len = length-placed_from (content_offset parts.segments) parts.segments in
+      let placed_len = length-file_segments_from (content_offset parts.segments) parts.segments in
       let names = tables_offset parts + (table_lengths parts).lines + (table_lengths parts).symbols +
       (table_lengths parts).strings in
       let count = section_count-is (full_file parts) (headers_of parts) (headers_offset parts) names has_headers in
       let header : get_or (headers_of parts) (5 + j) null_section
-      ≡ segment_section (get_or (placed parts.segments) j no_segment) =
+      ≡ segment_section (get_or (file_segments parts.segments) j no_segment) =
       get_or-append-add (table_sections (tables_offset parts) (table_lengths parts))
-      (map segment_section (placed parts.segments)) j null_section
-      ∙ get_or-map segment_section (placed parts.segments) j no_segment null_section (omega arith) in
+      (map segment_section (file_segments parts.segments)) j null_section
+      ∙ get_or-map segment_section (file_segments parts.segments) j no_segment null_section (omega arith) in
       slice_get-table (section_at (full_file parts)) (section_count (full_file parts)) (5 + j) (omega arith)
       ∙ ap (λ h. Some (section_of (full_file parts) h))
       (section_header-is (full_file parts) (headers_of parts) (headers_offset parts) names has_headers
@@ -389,7 +389,7 @@ record IsPlacedPart (p : Segment) (s : SegmentContent) : Type 0 where
   file_len : p.file_len ≡ length s.bytes
 
 placed_part : (offset : ℕ) (segments : List SegmentContent) (j : ℕ) (d : Segment) (e : SegmentContent)
-    → j < length segments → IsPlacedPart (get_or (placed_from offset segments) j d) (get_or segments j e)
+    → j < length segments → IsPlacedPart (get_or (file_segments_from offset segments) j d) (get_or segments j e)
 placed_part offset [] j d e lt = absurd (omega arith)
 placed_part offset (s ∷ segments) zero d e lt = record { flags = refl; addr = refl; file_len = refl }
 placed_part offset (s ∷ segments) (suc j) d e lt = placed_part (offset + length s.bytes) segments j d e (omega arith)
@@ -435,7 +435,7 @@ module _ (parts : Parts) (can : AreFit parts) (flags : All (λ s. s.flags < 2 ^ 
       let e : SegmentContent = record { addr = 0; bytes = []; mem_len = 0; flags = 0 } in
       let held : holds f (get_or parts.segments j e) ≡ true = passes_at_first (holds f) parts.segments e inside in
       rw (section-is parts can flags j inside)
-      (code_in (full_file parts) (get_or (placed parts.segments) j no_segment) (get_or parts.segments j e) f
+      (code_in (full_file parts) (get_or (file_segments parts.segments) j no_segment) (get_or parts.segments j e) f
       (placed_part (content_offset parts.segments) parts.segments j no_segment e inside) held)
 
   rows_fit : All FitsIfLined parts.functions
@@ -469,7 +469,7 @@ module _ (parts : Parts) (can : AreFit parts) (flags : All (λ s. s.flags < 2 ^ 
       tail_at parts can flags in
       let bytes : content_of (image_of (full_file parts)) (codes ".debug_line")
       ≡ line_section parts.file parts.functions =
-      lines-are (full_file parts) (tables_offset parts) (table_lengths parts) (placed parts.segments)
+      lines-are (full_file parts) (tables_offset parts) (table_lengths parts) (file_segments parts.segments)
       (headers_offset parts) names (has_headers parts can flags) (line_section parts.file parts.functions)
       (symbols_bytes (symbol_entries parts.segments parts.functions) ++
       (name_strings parts.functions ++ (section_strings ++ sections_bytes (headers_of parts)))) tail refl in
@@ -500,7 +500,7 @@ full_is_made : (parts : Parts) → AreFit parts → All (λ s. s.flags < 2 ^ 32)
 full_is_made parts can flags some = record {
   accepted = accepted parts can flags;
   entry = ap (λ h. h.entry) (header_is (full_header parts) parts.segments (tail_of parts) (sound parts can flags));
-  segments = segments-made (full_header parts) parts.segments (tail_of parts) (sound parts can flags);
+  segments = segments-elf_file (full_header parts) parts.segments (tail_of parts) (sound parts can flags);
   symbols = symbols parts can flags ∙ sym some;
   code = code parts can flags;
   lines = lines parts can flags;
@@ -560,11 +560,11 @@ module _ (parts : Parts) (can : AreFit parts) (flags : All (λ s. s.flags < 2 ^ 
 
   plain_is_made : IsMade parts (plain_file parts)
   plain_is_made = record {
-    accepted = refusal-made (plain_header parts) parts.segments [] plain_sound can.segments.apart
+    accepted = refusal-elf_file (plain_header parts) parts.segments [] plain_sound can.segments.apart
         can.segments.entry_aligned can.segments.entry_in_code whole_none
         (ap (λ n. first_fault (table (section_fault (plain_file parts)) n)) count_none);
     entry = ap (λ h. h.entry) (header_is (plain_header parts) parts.segments [] plain_sound);
-    segments = segments-made (plain_header parts) parts.segments [] plain_sound;
+    segments = segments-elf_file (plain_header parts) parts.segments [] plain_sound;
     symbols = ap (map (symbol_in (plain_file parts))) no_symbols ∙ sym (ap (symbols_for parts.segments) none);
     code = λ k d lt. absurd (let empty = ap length none in omega arith);
     lines = λ a. no_lines a ∙ sym (ap

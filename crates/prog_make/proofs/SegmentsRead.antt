@@ -23,7 +23,7 @@ use Rattle.prog_make.specs.Parts.{content_len}
 use Rattle.prog_make.specs.Functions.{is_executable}
 use Rattle.prog_make.specs.inner.Conditions.{covers, IsPlaced, AreApart}
 use Rattle.prog_make.specs.Contents.{segment_in}
-use Rattle.prog_make.specs.Programs.{placed_from}
+use Rattle.prog_make.specs.Programs.{file_segments_from}
 use Rattle.prog_make.specs.inner.ProgramBytes.{program_bytes, programs_bytes}
 use Rattle.prog_make.proofs.Reading.{word_in, entries_behind}
 
@@ -101,10 +101,10 @@ pub All-more : {X : Type 0} (P : X → Type 0) (x : X) (xs : List X) → P x →
 All-more P x xs here rest zero d lt = here
 All-more P x xs here rest (suc k) d lt = rest k d (omega arith)
 
-pub length-placed_from : (offset : ℕ) (segments : List SegmentContent)
-    → length (placed_from offset segments) ≡ length segments
-length-placed_from offset [] = refl
-length-placed_from offset (s ∷ segments) = ap suc (length-placed_from (offset + length s.bytes) segments)
+pub length-file_segments_from : (offset : ℕ) (segments : List SegmentContent)
+    → length (file_segments_from offset segments) ≡ length segments
+length-file_segments_from offset [] = refl
+length-file_segments_from offset (s ∷ segments) = ap suc (length-file_segments_from (offset + length s.bytes) segments)
 
 -- a segment as a file of so many bytes may hold it
 pub record IsGood (len : ℕ) (s : Segment) : Type 0 where
@@ -112,11 +112,11 @@ pub record IsGood (len : ℕ) (s : Segment) : Type 0 where
   pub placed : is_placed s ≡ true
   pub in_file : s.offset + s.file_len ≤ len
 
-pub placed_from-good : (len offset : ℕ) (segments : List SegmentContent) → len < 2 ^ 32
+pub file_segments_from-good : (len offset : ℕ) (segments : List SegmentContent) → len < 2 ^ 32
     → offset + content_len segments ≤ len → All IsPlaced segments → All (λ s. s.flags < 2 ^ 32) segments
-    → All (IsGood len) (placed_from offset segments)
-placed_from-good len offset [] short room placed flags = λ k d lt. absurd (omega arith)
-placed_from-good len offset (s ∷ segments) short room placed flags =
+    → All (IsGood len) (file_segments_from offset segments)
+file_segments_from-good len offset [] short room placed flags = λ k d lt. absurd (omega arith)
+file_segments_from-good len offset (s ∷ segments) short room placed flags =
     let sum = sum_by-cons (λ (t : SegmentContent). length t.bytes) s segments in
     let here : IsPlaced s = placed 0 s (omega arith) in
     let flag : s.flags < 2 ^ 32 = flags 0 s (omega arith) in
@@ -130,7 +130,7 @@ placed_from-good len offset (s ∷ segments) short room placed flags =
       file_len = length s.bytes;
       mem_len = s.mem_len;
       flags = s.flags;
-    }) (placed_from (offset + length s.bytes) segments)
+    }) (file_segments_from (offset + length s.bytes) segments)
     (record {
       fits = record {
         offset = omega arith;
@@ -148,15 +148,15 @@ placed_from-good len offset (s ∷ segments) short room placed flags =
       ) refl;
       in_file = omega arith;
     })
-    (placed_from-good len (offset + length s.bytes) segments short (omega arith) (All-rest IsPlaced s segments placed)
+    (file_segments_from-good len (offset + length s.bytes) segments short (omega arith) (All-rest IsPlaced s segments placed)
     (All-rest (λ t. t.flags < 2 ^ 32) s segments flags))
 
 -- the bytes of the segments stand where their headers say
-pub segment_in-placed : (file : List ℕ) (offset : ℕ) (segments : List SegmentContent) (tail : List ℕ)
+pub segment_in-file_segments : (file : List ℕ) (offset : ℕ) (segments : List SegmentContent) (tail : List ℕ)
     → drop offset file ≡ flat_map (λ s. s.bytes) segments ++ tail
-    → map (segment_in file) (placed_from offset segments) ≡ segments
-segment_in-placed file offset [] tail e = refl
-segment_in-placed file offset (s ∷ segments) tail e =
+    → map (segment_in file) (file_segments_from offset segments) ≡ segments
+segment_in-file_segments file offset [] tail e = refl
+segment_in-file_segments file offset (s ∷ segments) tail e =
     let whole : drop offset file ≡ s.bytes ++ (flat_map (λ t. t.bytes) segments ++ tail) = e
     ∙ append_assoc s.bytes (flat_map (λ t. t.bytes) segments) tail in
     let cut : offset + length s.bytes - offset ≡ length s.bytes = omega arith in
@@ -166,29 +166,29 @@ segment_in-placed file offset (s ∷ segments) tail e =
     let behind : drop (offset + length s.bytes) file ≡ flat_map (λ t. t.bytes) segments ++ tail =
     sym (drop-drop (length s.bytes) offset file) ∙ ap (drop (length s.bytes)) whole
     ∙ drop_at s.bytes (flat_map (λ t. t.bytes) segments ++ tail) (length s.bytes) refl in
-    let rest = segment_in-placed file (offset + length s.bytes) segments tail behind in
+    let rest = segment_in-file_segments file (offset + length s.bytes) segments tail behind in
     ap (λ (bytes : List ℕ). let x : SegmentContent =
     record { addr = s.addr; bytes = bytes; mem_len = s.mem_len; flags = s.flags } in x ∷ map (segment_in file)
-    (placed_from (offset + length s.bytes) segments)) here
+    (file_segments_from (offset + length s.bytes) segments)) here
     ∙ ap (λ xs. s ∷ xs) rest
 
 -- an address lies in as many segments as the parts have for it
 pub count_placed : (a offset : ℕ) (segments : List SegmentContent)
-    → count_by (elf.covers a) (placed_from offset segments) ≡ count_by (covers a) segments
+    → count_by (elf.covers a) (file_segments_from offset segments) ≡ count_by (covers a) segments
 count_placed a offset [] = refl
 count_placed a offset (s ∷ segments) =
     sum_by-cons (λ t. cond (elf.covers a t) 1 0)
     (record { offset = offset; addr = s.addr; file_len = length s.bytes; mem_len = s.mem_len; flags = s.flags })
-    (placed_from (offset + length s.bytes) segments)
+    (file_segments_from (offset + length s.bytes) segments)
     ∙ ap (λ n. cond (covers a s) 1 0 + n) (count_placed a (offset + length s.bytes) segments)
     ∙ sym (sum_by-cons (λ t. cond (covers a t) 1 0) s segments)
 
 pub apart_placed : (offset : ℕ) (segments : List SegmentContent) → AreApart segments
-    → IsApart (placed_from offset segments)
+    → IsApart (file_segments_from offset segments)
 apart_placed offset segments apart a = rw (count_placed a offset segments) (apart a)
 
 pub code_placed : (entry offset : ℕ) (segments : List SegmentContent)
-    → list_any (elf.is_code entry) (placed_from offset segments)
+    → list_any (elf.is_code entry) (file_segments_from offset segments)
     ≡ list_any (λ s. covers entry s && is_executable s) segments
 code_placed entry offset [] = refl
 code_placed entry offset (s ∷ segments) =

@@ -16,7 +16,7 @@ use Rattle.prog_make.specs.SegmentContent.{SegmentContent}
 use Rattle.prog_make.specs.Encoding.{half_bytes}
 use Rattle.prog_make.specs.Names.{HasNoZero}
 use Rattle.prog_make.specs.Contents.{NamedSymbol, symbol_in, function_symbol}
-use Rattle.prog_make.specs.inner.Strings.{ended}
+use Rattle.prog_make.specs.inner.Strings.{with_zero}
 use Rattle.prog_make.specs.Functions.{section_number}
 use Rattle.prog_make.specs.inner.Symbols.{symbol_bytes, symbols_bytes, entries_from, undefined_entry}
 use Rattle.prog_make.proofs.Reading.{word_in, half_here, entries_behind}
@@ -118,31 +118,31 @@ symbols-are file strings rest others names place entries fits strings_at at =
 
 module _ (segments : List SegmentContent) where
   regroup : (front : List ℕ) (f : FunctionPart) (functions : List FunctionPart)
-      → front ++ flat_map (λ g. ended g.name) (f ∷ functions)
-      ≡ (front ++ ended f.name) ++ flat_map (λ g. ended g.name) functions
-  regroup front f functions = sym (append_assoc front (ended f.name) (flat_map (λ g. ended g.name) functions))
+      → front ++ flat_map (λ g. with_zero g.name) (f ∷ functions)
+      ≡ (front ++ with_zero f.name) ++ flat_map (λ g. with_zero g.name) functions
+  regroup front f functions = sym (append_assoc front (with_zero f.name) (flat_map (λ g. with_zero g.name) functions))
 
   behind : (front : List ℕ) (f : FunctionPart) (functions : List FunctionPart)
-      → front ++ flat_map (λ g. ended g.name) (f ∷ functions)
-      ≡ front ++ (f.name ++ 0 ∷ flat_map (λ g. ended g.name) functions)
+      → front ++ flat_map (λ g. with_zero g.name) (f ∷ functions)
+      ≡ front ++ (f.name ++ 0 ∷ flat_map (λ g. with_zero g.name) functions)
   behind front f functions = ap (λ xs. front ++ xs)
-      (append_assoc f.name (0 ∷ []) (flat_map (λ g. ended g.name) functions))
+      (append_assoc f.name (0 ∷ []) (flat_map (λ g. with_zero g.name) functions))
 
-  front_len : (front : List ℕ) (f : FunctionPart) → length (front ++ ended f.name) ≡ length front + length f.name + 1
-  front_len front f = let a = length-append front (ended f.name) in let b = length-append f.name (0 ∷ []) in omega arith
+  front_len : (front : List ℕ) (f : FunctionPart) → length (front ++ with_zero f.name) ≡ length front + length f.name + 1
+  front_len front f = let a = length-append front (with_zero f.name) in let b = length-append f.name (0 ∷ []) in omega arith
 
   pub entries-seen : (front : List ℕ) (functions : List FunctionPart) → All (λ f. HasNoZero f.name) functions
-      → map (seen (front ++ flat_map (λ f. ended f.name) functions)) (entries_from (length front) segments functions)
+      → map (seen (front ++ flat_map (λ f. with_zero f.name) functions)) (entries_from (length front) segments functions)
       ≡ map (function_symbol segments) functions
   entries-seen front [] none = refl
   entries-seen front (f ∷ functions) none =
-      let rest = entries-seen (front ++ ended f.name) functions (All-rest (λ g. HasNoZero g.name) f functions none) in
-      let rest' : map (seen (front ++ flat_map (λ g. ended g.name) (f ∷ functions)))
+      let rest = entries-seen (front ++ with_zero f.name) functions (All-rest (λ g. HasNoZero g.name) f functions none) in
+      let rest' : map (seen (front ++ flat_map (λ g. with_zero g.name) (f ∷ functions)))
       (entries_from (length front + length f.name + 1) segments functions)
       ≡ map (function_symbol segments) functions =
       rw (regroup front f functions, ← front_len front f) rest in
-      let name : text_at (front ++ flat_map (λ g. ended g.name) (f ∷ functions)) (length front) ≡ f.name =
-      rw (behind front f functions) (text_at-is front f.name (flat_map (λ g. ended g.name) functions)
+      let name : text_at (front ++ flat_map (λ g. with_zero g.name) (f ∷ functions)) (length front) ≡ f.name =
+      rw (behind front f functions) (text_at-is front f.name (flat_map (λ g. with_zero g.name) functions)
       (none 0 f (omega arith))) in
       ap (λ (n : List ℕ). let x : NamedSymbol =
       record {
@@ -152,7 +152,7 @@ module _ (segments : List SegmentContent) where
         kind = 2;
         binding = 1;
         section = section_number segments f;
-      } in x ∷ map (seen (front ++ flat_map (λ g. ended g.name) (f ∷ functions)))
+      } in x ∷ map (seen (front ++ flat_map (λ g. with_zero g.name) (f ∷ functions)))
       (entries_from (length front + length f.name + 1) segments functions)) name
       ∙ ap (λ xs. function_symbol segments f ∷ xs) rest'
 
@@ -164,23 +164,23 @@ module _ (segments : List SegmentContent) where
     pub section : section_number segments f < 2 ^ 16
 
   pub entries-fit : (front : List ℕ) (functions : List FunctionPart)
-      → length (front ++ flat_map (λ f. ended f.name) functions) < 2 ^ 32 → All FunctionFits functions
-      → All (EntryFits (front ++ flat_map (λ f. ended f.name) functions))
+      → length (front ++ flat_map (λ f. with_zero f.name) functions) < 2 ^ 32 → All FunctionFits functions
+      → All (EntryFits (front ++ flat_map (λ f. with_zero f.name) functions))
       (entries_from (length front) segments functions)
   entries-fit front [] short fit = λ k d lt. absurd (omega arith)
   entries-fit front (f ∷ functions) short fit =
-      let whole = front ++ flat_map (λ g. ended g.name) (f ∷ functions) in
+      let whole = front ++ flat_map (λ g. with_zero g.name) (f ∷ functions) in
       let here : FunctionFits f = fit 0 f (omega arith) in
-      let inside : length front < length (front ++ flat_map (λ g. ended g.name) (f ∷ functions)) =
-      let a = length-append front (flat_map (λ g. ended g.name) (f ∷ functions)) in let b =
-      length-append (ended f.name) (flat_map (λ g. ended g.name) functions) in let c =
+      let inside : length front < length (front ++ flat_map (λ g. with_zero g.name) (f ∷ functions)) =
+      let a = length-append front (flat_map (λ g. with_zero g.name) (f ∷ functions)) in let b =
+      length-append (with_zero f.name) (flat_map (λ g. with_zero g.name) functions) in let c =
       length-append f.name (0 ∷ []) in omega arith in
-      let rest = entries-fit (front ++ ended f.name) functions (rw (← regroup front f functions) short)
+      let rest = entries-fit (front ++ with_zero f.name) functions (rw (← regroup front f functions) short)
       (All-rest FunctionFits f functions fit) in
-      let rest' : All (EntryFits (front ++ flat_map (λ g. ended g.name) (f ∷ functions)))
+      let rest' : All (EntryFits (front ++ flat_map (λ g. with_zero g.name) (f ∷ functions)))
       (entries_from (length front + length f.name + 1) segments functions) =
       rw (regroup front f functions, ← front_len front f) rest in
-      All-more (EntryFits (front ++ flat_map (λ g. ended g.name) (f ∷ functions)))
+      All-more (EntryFits (front ++ flat_map (λ g. with_zero g.name) (f ∷ functions)))
       (record {
         name = length front;
         value = f.addr;
@@ -195,6 +195,6 @@ module _ (segments : List SegmentContent) where
         size = here.size;
         section = here.section;
         short = string_len-le
-            (drop (length front) (front ++ flat_map (λ g. ended g.name) (f ∷ functions)));
+            (drop (length front) (front ++ flat_map (λ g. with_zero g.name) (f ∷ functions)));
       })
       rest'

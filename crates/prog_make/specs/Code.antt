@@ -2,7 +2,7 @@
 use Rattle.std.specs.Prelude.{ℕ, ◌+◌, ◌*◌, ◌<◌, ◌^◌, List, length}
 use Rattle.std.specs.List.{All, flat_map}
 use Rattle.rv_decode.specs.declared.instr.Instr.{Instr}
-use Rattle.rv_decode.specs.Encoded.{IsInRange, encoded}
+use Rattle.rv_decode.specs.Encoded.{IsInRange, encode}
 use Rattle.prog_make.specs.Encoding.{word_bytes}
 
 -- instructions as bytes, and the address of the first one
@@ -16,7 +16,7 @@ end_of code = code.base + length code.bytes
 
 -- the words of instructions, one after the other
 unfoldable pub code_of : List Instr → List ℕ
-code_of instrs = flat_map (λ i. word_bytes (encoded i)) instrs
+code_of instrs = flat_map (λ i. word_bytes (encode i)) instrs
 
 -- each instruction has its fields in their ranges, and the code from an address on ends below 2^32
 pub record CanBeAssembled (base : ℕ) (instrs : List Instr) : Type 0 where

@@ -8,7 +8,7 @@ use Rattle.prog_make.specs.declared.function_part.FunctionPart.{FunctionPart}
 use Rattle.prog_make.specs.Parts.{Parts, total_len}
 use Rattle.prog_make.specs.Names.{HasNoZero, IsName}
 use Rattle.prog_make.specs.Functions.{holds, lies_in, IsWhole}
-use Rattle.prog_make.specs.Programs.{placed}
+use Rattle.prog_make.specs.Programs.{file_segments}
 
 -- a segment has memory, and its sizes and its addresses are those that a reader takes
 pub record IsLoadable (s : Segment) : Type 0 where
@@ -18,11 +18,11 @@ pub record IsLoadable (s : Segment) : Type 0 where
 -- segments, as they stand in the file, and the entry of a program
 pub record AreSegmentsSound (parts : Parts) : Type 0 where
   pub count : length parts.segments ≤ 60000
-  pub loadable : All IsLoadable (placed parts.segments)
-  pub apart : IsApart (placed parts.segments)
+  pub loadable : All IsLoadable (file_segments parts.segments)
+  pub apart : IsApart (file_segments parts.segments)
   -- the entry is the place of an instruction
   pub entry_aligned : parts.entry % 4 ≡ 0
-  pub entry_in_code : IsTrue (list_any (is_code parts.entry) (placed parts.segments))
+  pub entry_in_code : IsTrue (list_any (is_code parts.entry) (file_segments parts.segments))
 
 -- no address lies in two functions
 abbrev pub AreFunctionsApart : List FunctionPart → Type 0

@@ -15,14 +15,14 @@ placed_at offset s = record {
 }
 
 -- the segments whose bytes stand one after the other in the file, from a place on
-abbrev pub placed_from : ℕ → List SegmentContent → List Segment
-placed_from offset [] = []
-placed_from offset (s ∷ segments) = placed_at offset s ∷ placed_from (offset + length s.bytes) segments
+abbrev pub file_segments_from : ℕ → List SegmentContent → List Segment
+file_segments_from offset [] = []
+file_segments_from offset (s ∷ segments) = placed_at offset s ∷ file_segments_from (offset + length s.bytes) segments
 
 -- where the bytes of segments begin: behind the ELF header and the program headers
 abbrev pub content_offset : List SegmentContent → ℕ
 content_offset segments = header_len + program_header_len * length segments
 
 -- the segments in the file
-abbrev pub placed : List SegmentContent → List Segment
-placed segments = placed_from (content_offset segments) segments
+abbrev pub file_segments : List SegmentContent → List Segment
+file_segments segments = file_segments_from (content_offset segments) segments

@@ -9,4 +9,4 @@ pub mod Symbols
 pub mod LineProgram
 pub mod LineSection
 pub mod Tail
-pub mod Made
+pub mod ElfFile

@@ -1,7 +1,7 @@
 //! Instructions, put one after the other.
 
 ghost use Rattle.std.specs.Prelude.{◌≡◌, ◌+◌, ◌-◌, ◌<◌, ◌^◌, ◌↔◌, [], ◌++◌, IfOk, IfSome, IsSome, OnOk, OnErr};
-ghost use Rattle.rv_decode.specs.Encoded.{IsInRange, encoded};
+ghost use Rattle.rv_decode.specs.Encoded.{IsInRange, encode};
 ghost use Rattle.prog_make.specs.Code.{end_of, code_of, CanBeAssembled};
 ghost use Rattle.prog_make.specs.Encoding.{word_bytes};
 
@@ -45,7 +45,7 @@ impl Assembler {
         requires in_range { IsInRange instr }
         requires room { end_of self.old < 2 ^ 32 - 4 }
         ensures base { self.new.base ≡ self.old.base }
-        ensures word { OnOk result (self.new.bytes ≡ self.old.bytes ++ word_bytes (encoded instr)) }
+        ensures word { OnOk result (self.new.bytes ≡ self.old.bytes ++ word_bytes (encode instr)) }
         ensures further { OnOk result (end_of self.new ≡ end_of self.old + 4) }
         ensures err { OnErr result (self.new ≡ self.old) }
     {

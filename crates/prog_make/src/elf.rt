@@ -8,7 +8,7 @@ ghost use Rattle.dwarf_line.specs.LineRow.{line_at};
 ghost use Rattle.prog_make.specs.Conditions.{CanBeMade};
 ghost use Rattle.prog_make.specs.inner.Conditions.{AreFit};
 ghost use Rattle.prog_make.specs.Contents.{segment_in, symbol_in, function_symbols, HasCode, lines_of, line_made};
-ghost use Rattle.prog_make.specs.inner.Made.{made, plain_file, full_file, file_of};
+ghost use Rattle.prog_make.specs.inner.ElfFile.{elf_file, plain_file, full_file, file_of};
 ghost use Rattle.prog_make.specs.Parts.{content_len};
 ghost use Rattle.prog_make.specs.Programs.{content_offset};
 ghost use Rattle.prog_make.specs.Functions.{section_number};
@@ -31,7 +31,7 @@ fn joined(
 ) -> Result<Text, OutOfMemory>
     requires count { length segments.now < 2 ^ 16 }
     requires room { content_offset segments.now + content_len segments.now < 2 ^ 32 }
-    ensures bytes { IfOk result (λ file. file ≡ made header.now segments.now tail.now) }
+    ensures bytes { IfOk result (λ file. file ≡ elf_file header.now segments.now tail.now) }
     ensures flags_fit { OnOk result (All (λ s. s.flags < 2 ^ 32) segments.now) }
 {
     let mut file = Text::new(alloc);

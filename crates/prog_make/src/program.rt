@@ -4,7 +4,7 @@ ghost use Rattle.std.specs.Prelude.{◌≡◌, ◌+◌, ◌*◌, ◌<◌, ◌≤
 ghost use Rattle.std.specs.List.{All, flat_map};
 ghost use Rattle.elf_read.specs.declared.program.Segment.{Segment};
 ghost use Rattle.prog_make.specs.Parts.{content_len};
-ghost use Rattle.prog_make.specs.Programs.{content_offset, placed_at, placed_from};
+ghost use Rattle.prog_make.specs.Programs.{content_offset, placed_at, file_segments_from};
 ghost use Rattle.prog_make.specs.inner.ProgramBytes.{program_bytes, programs_bytes};
 
 use crate::numbers::push_words;
@@ -48,7 +48,7 @@ pub fn push_program_headers(
     offset: u32,
 ) -> Result<(), OutOfMemory>
     requires { offset + content_len segments.now < 2 ^ 32 }
-    ensures written { OnOk result (out.new ≡ out.old ++ programs_bytes (placed_from offset segments.now)) }
+    ensures written { OnOk result (out.new ≡ out.old ++ programs_bytes (file_segments_from offset segments.now)) }
     ensures flags_fit { OnOk result (All (λ s. s.flags < 2 ^ 32) segments.now) }
 {
     let mut offset = offset;

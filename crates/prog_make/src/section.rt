@@ -3,7 +3,7 @@
 ghost use Rattle.std.specs.Prelude.{◌≡◌, ◌+◌, ◌<◌, ◌^◌, ◌++◌, length, map, OnOk};
 ghost use Rattle.elf_read.specs.declared.program.Segment.{Segment};
 ghost use Rattle.prog_make.specs.Parts.{content_len};
-ghost use Rattle.prog_make.specs.Programs.{placed_at, placed_from};
+ghost use Rattle.prog_make.specs.Programs.{placed_at, file_segments_from};
 ghost use Rattle.prog_make.specs.inner.Sections.{section_bytes, section_headers, sections_bytes, segment_section};
 ghost use Rattle.prog_make.specs.inner.Sections.{segment_section_flags, symbol_section, table_section, table_sections};
 
@@ -191,7 +191,7 @@ fn push_segment_sections(
 ) -> Result<(), OutOfMemory>
     requires { offset + content_len segments.now < 2 ^ 32 }
     ensures { OnOk result (out.new ≡ out.old ++ sections_bytes
-        (map segment_section (placed_from offset segments.now))) }
+        (map segment_section (file_segments_from offset segments.now))) }
 {
     let mut offset = offset;
     'segments: for segment in segments {
@@ -213,7 +213,7 @@ pub fn push_sections(
     requires tables { tables + lengths.now.lines + lengths.now.symbols + lengths.now.strings < 2 ^ 32 }
     requires contents { contents + content_len segments.now < 2 ^ 32 }
     ensures { OnOk result (out.new
-        ≡ out.old ++ sections_bytes (section_headers tables lengths.now (placed_from contents segments.now))) }
+        ≡ out.old ++ sections_bytes (section_headers tables lengths.now (file_segments_from contents segments.now))) }
 {
     push_table_sections(out, tables, lengths)?;
     push_segment_sections(out, segments, contents)

@@ -1,8 +1,8 @@
 //! A segment of a program that is to be made.
 
 use crate::function_part::FunctionPart;
-use elf_read::standard::PF_X;
 use byte_text::OutOfMemory;
+use elf_read::standard::PF_X;
 use std::alloc::Global;
 use std::marker::Model;
 

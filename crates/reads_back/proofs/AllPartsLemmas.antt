@@ -20,8 +20,8 @@ use Rattle.cg_read.proofs.PlainLemmas.{lines_read, plain_sound, reads_lines}
 use Rattle.profile_files.specs.Joined as files
 use Rattle.profile_files.specs.Joined.{Joins}
 use Rattle.outside.specs.Load.{Load}
-use Rattle.profile_files.specs.Reading.{events_fault, events_of, reading_fault, refused}
-use Rattle.profile_files.specs.Wanted.{Wanted}
+use Rattle.profile_files.specs.Reading.{events_fault, events_of, reading_fault, refusal_of}
+use Rattle.profile_files.specs.WantedFile.{WantedFile}
 use Rattle.profile_files.specs.declared.fault.ReadFault.TheVariants.{EventsDiffer}
 use Rattle.profile_files.proofs.BlankLemmas.{blank_agrees}
 use Rattle.reads_back.specs.Joined.{AreOfOneRun, ArePartsOfRun, AreWhole, WrittenPart, events_in, first_command}
@@ -73,11 +73,11 @@ longer_of_none (name ∷ names) =
     ap (λ (b : Bool). if b then name ∷ names else []) (lt-ltb 0 (length (name ∷ names)) (omega arith))
 
 -- A file without a bad line, whose events agree with those before it, doesn't stop the reading
-pub read_on : (before own : List (List ℕ)) (text : List ℕ) (w : Wanted) (wanted : List Wanted) (loads : List Load)
+pub read_on : (before own : List (List ℕ)) (text : List ℕ) (w : WantedFile) (wanted : List WantedFile) (loads : List Load)
     → agree before own ≡ true → longer before own ≡ own → first_bad_of text ≡ None → events_of text ≡ own
     → reading_fault before (w ∷ wanted) (Ok text ∷ loads) ≡ reading_fault own wanted loads
 read_on before own text w wanted loads agreed same sound named =
-    (λ i. or_else (or_else (option_map (refused w.name) (sound i)) (events_fault w.name before (named i)))
+    (λ i. or_else (or_else (option_map (refusal_of w.name) (sound i)) (events_fault w.name before (named i)))
     (reading_fault (longer before (named i)) wanted loads))
     ∙ (λ i. or_else (if agreed i then None else Some (EventsDiffer w.name)) (reading_fault (same i) wanted loads))
 
@@ -264,7 +264,7 @@ module _ (head : PartHead) (m : SymbolMap) (sound : IsSound m) where
       )
 
   -- after events with which a part's own agree, the reading goes on with its own
-  go_on : (before : List (List ℕ)) (part : WrittenPart) (parts : List WrittenPart) (w : Wanted) (wanted : List Wanted)
+  go_on : (before : List (List ℕ)) (part : WrittenPart) (parts : List WrittenPart) (w : WantedFile) (wanted : List WantedFile)
       → agree before (events_in head) ≡ true → longer before (events_in head) ≡ events_in head
       → AreOfOneRun head part.head → AreWritable m part.rows
       → reading_fault before (w ∷ wanted) (map {B = Load} (λ text. Ok text) (texts_of m (part ∷ parts)))
@@ -274,7 +274,7 @@ module _ (head : PartHead) (m : SymbolMap) (sound : IsSound m) where
       (map {B = Load} (λ text. Ok text) (texts_of m parts)) agreed same (without_fault part fits)
       (own_events part run fits)
 
-  pub none_refused : (parts : List WrittenPart) (wanted : List Wanted) → length wanted ≡ length parts
+  pub none_refused : (parts : List WrittenPart) (wanted : List WantedFile) → length wanted ≡ length parts
       → ArePartsOfRun head m parts
       → reading_fault (events_in head) wanted (map {B = Load} (λ text. Ok text) (texts_of m parts)) ≡ None
   none_refused parts [] long are = refl
@@ -284,7 +284,7 @@ module _ (head : PartHead) (m : SymbolMap) (sound : IsSound m) where
       go_on (events_in head) part parts w wanted (events_agree head) (longer_same (events_in head)) here.0 here.1
       ∙ none_refused parts wanted (omega (arith, long)) (rest_of head m part parts are)
 
-  pub none_refused_unnamed : (parts : List WrittenPart) (wanted : List Wanted) → length wanted ≡ length parts
+  pub none_refused_unnamed : (parts : List WrittenPart) (wanted : List WantedFile) → length wanted ≡ length parts
       → ArePartsOfRun head m parts
       → reading_fault [] wanted (map {B = Load} (λ text. Ok text) (texts_of m parts)) ≡ None
   none_refused_unnamed parts [] long are = refl

@@ -1,7 +1,7 @@
 -- The lines of a heading, read again.
 use Rattle.std.proofs.Common.{get_or, length, subst, sym, ◌-◌}
 use Rattle.reads_back.proofs.TextLemmas.{is_seen}
-use Rattle.cg_lines.specs.Lines.{trimmed}
+use Rattle.cg_lines.specs.Lines.{trim}
 use Rattle.std.proofs.Common.{◌≡◌, ℕ, ◌<◌, Bool, true, false, List, [], ◌∷◌, ◌++◌, map, reverse, codes, Some, None}
 use Rattle.std.proofs.Common.{refl, ap}
 use Rattle.std.proofs.Common.{◌∙◌, arith}
@@ -9,13 +9,13 @@ use Rattle.std.specs.Fmt.{decimal}
 use Rattle.std.specs.List.{list_all}
 use Rattle.cache_lru.specs.Shape.{Shape}
 use Rattle.event_costs.specs.Costs.{event_names, events_shown}
-use Rattle.byte_text.specs.Names.{cleaned, is_printable}
+use Rattle.byte_text.specs.Names.{clean_name, is_printable}
 use Rattle.cg_format.specs.declared.trigger.Trigger.{Trigger}
 use Rattle.cg_format.specs.declared.trigger.Trigger.TheVariants.{Every, Before, After, Termination}
 use Rattle.sym_map.specs.SymbolMap.{SymbolMap}
 use Rattle.cg_format.specs.Heading.{cache_text, description_lines, heading, identity_lines, object_line, summary_lines}
 use Rattle.cg_format.specs.Heading.{trigger_text}
-use Rattle.cg_format.specs.Marks.{Plain, cost_text, spaced}
+use Rattle.cg_format.specs.Marks.{Plain, cost_text, words_text}
 use Rattle.cg_format.specs.declared.head.PartHead.{PartHead}
 use Rattle.cg_lines.specs.Lines.{is_blank, words}
 use Rattle.cg_read.specs.Reading.{bad_line}
@@ -27,7 +27,7 @@ use Rattle.reads_back.proofs.TextLemmas.{IsText, clear-append, seen_no_blank, st
 use Rattle.reads_back.proofs.CleanLemmas.{IsName, cleaned_name, name-text}
 use Rattle.reads_back.proofs.IdLemmas.{no_ids}
 use Rattle.reads_back.proofs.NumberLemmas.{text-decimal}
-use Rattle.reads_back.proofs.LineLemmas.{AreClear, read}
+use Rattle.reads_back.proofs.LineLemmas.{AreClear, lines_of_marks}
 use Rattle.reads_back.proofs.ShapeLemmas.{Spells, costs_after, new_name}
 use Rattle.reads_back.proofs.StandingLemmas.{Stands, file_name, function_name}
 
@@ -67,16 +67,16 @@ says_part n =
     (text-append (codes "part: ") (decimal n) refl (text-decimal n)) refl
 
 name_after_space : (text : List ℕ) → IsName text
-    → trimmed (32 ∷ text) ≡ text
+    → trim (32 ∷ text) ≡ text
 name_after_space text n =
-    subst (λ (t : List ℕ). trimmed (32 ∷ t) ≡ t)
+    subst (λ (t : List ℕ). trim (32 ∷ t) ≡ t)
     (sym n.is) (trimmed_space n.first n.rest (seen_no_blank n.first n.seen) n.whole)
 
-says_command : (cmd : List ℕ) → Spells (codes "cmd: " ++ cleaned cmd) (Command (cleaned cmd))
+says_command : (cmd : List ℕ) → Spells (codes "cmd: " ++ clean_name cmd) (Command (clean_name cmd))
 says_command cmd =
-    says 99 (codes "md: " ++ cleaned cmd) (Command (cleaned cmd)) refl
-    (text-append (codes "cmd: ") (cleaned cmd) refl (name-text (cleaned cmd) (cleaned_name cmd)))
-    (ap Command (name_after_space (cleaned cmd) (cleaned_name cmd)))
+    says 99 (codes "md: " ++ clean_name cmd) (Command (clean_name cmd)) refl
+    (text-append (codes "cmd: ") (clean_name cmd) refl (name-text (clean_name cmd) (cleaned_name cmd)))
+    (ap Command (name_after_space (clean_name cmd) (cleaned_name cmd)))
 
 cache_is_text : (name : List ℕ) (s : Shape) → list_all is_printable name ≡ true → IsText (cache_text name s)
 cache_is_text name s clear =
@@ -103,9 +103,9 @@ says_cache name s clear =
 trigger_is_text : (t : Trigger) → IsText (trigger_text t)
 trigger_is_text (Every steps) = text-append (codes "--dump-every=") (decimal steps) refl (text-decimal steps)
 trigger_is_text (Before name) =
-    text-append (codes "--dump-before=") (cleaned name) refl (name-text (cleaned name) (cleaned_name name))
+    text-append (codes "--dump-before=") (clean_name name) refl (name-text (clean_name name) (cleaned_name name))
 trigger_is_text (After name) =
-    text-append (codes "--dump-after=") (cleaned name) refl (name-text (cleaned name) (cleaned_name name))
+    text-append (codes "--dump-after=") (clean_name name) refl (name-text (clean_name name) (cleaned_name name))
 trigger_is_text Termination = literal (codes "Program termination") refl (omega arith) refl
 
 says_trigger : (t : Trigger) → Spells (codes "desc: Trigger: " ++ trigger_text t) Header
@@ -117,16 +117,16 @@ says_positions : Spells (codes "positions: line") (Positions (codes " line"))
 says_positions = says 112 (codes "ositions: line") (Positions (codes " line")) refl
     (literal (codes "positions: line") refl (omega arith) refl) refl
 
-events_are_text : (branch : Bool) → IsText (codes "events:" ++ spaced (events_shown branch event_names))
+events_are_text : (branch : Bool) → IsText (codes "events:" ++ words_text (events_shown branch event_names))
 unfolding event_names
 events_are_text true = record { clear = refl; some = omega arith; last = refl }
 events_are_text false = record { clear = refl; some = omega arith; last = refl }
 
-says_events : (branch : Bool) → Spells (codes "events:" ++ spaced (events_shown branch event_names))
-    (Events (spaced (events_shown branch event_names)))
+says_events : (branch : Bool) → Spells (codes "events:" ++ words_text (events_shown branch event_names))
+    (Events (words_text (events_shown branch event_names)))
 says_events branch =
-    says 101 (codes "vents:" ++ spaced (events_shown branch event_names))
-    (Events (spaced (events_shown branch event_names))) refl (events_are_text branch) refl
+    says 101 (codes "vents:" ++ words_text (events_shown branch event_names))
+    (Events (words_text (events_shown branch event_names))) refl (events_are_text branch) refl
 
 pub says_summary : (costs : List ℕ) → Spells (codes "summary:" ++ cost_text costs) Header
 says_summary costs =
@@ -138,12 +138,12 @@ says_totals costs =
     says 116 (codes "otals:" ++ cost_text costs) Header refl
     (costs_after (codes "totals:") costs (literal (codes "totals:") refl (omega arith) refl)) refl
 
-pub says_object : (head : PartHead) → Spells (object_line head) (Object (Named (49 ∷ []) (cleaned head.object)))
+pub says_object : (head : PartHead) → Spells (object_line head) (Object (Named (49 ∷ []) (clean_name head.object)))
 says_object head =
-    says 111 (codes "b=(1) " ++ cleaned head.object) (Object (Named (49 ∷ []) (cleaned head.object))) refl
-    (text-append (codes "ob=(1) ") (cleaned head.object) refl
-    (name-text (cleaned head.object) (cleaned_name head.object)))
-    (ap Object (new_name (49 ∷ []) (cleaned head.object) (cleaned_name head.object)))
+    says 111 (codes "b=(1) " ++ clean_name head.object) (Object (Named (49 ∷ []) (clean_name head.object))) refl
+    (text-append (codes "ob=(1) ") (clean_name head.object) refl
+    (name-text (clean_name head.object) (cleaned_name head.object)))
+    (ap Object (new_name (49 ∷ []) (clean_name head.object) (cleaned_name head.object)))
 
 -- What is known after the heading
 
@@ -154,8 +154,8 @@ heading_at head place sum = identity_lines head ++ description_lines head ++ pla
 -- what they say, the last line first
 abbrev pub heading_read : Bool → List ℕ → List ℕ → List Line
 heading_read branch cmd shown =
-    Header ∷ Events (spaced (events_shown branch event_names)) ∷ Positions shown ∷ Header ∷ Header ∷ Header
-    ∷ Header ∷ Command (cleaned cmd) ∷ Header ∷ Header ∷ Header ∷ Header ∷ Header ∷ Blank ∷ []
+    Header ∷ Events (words_text (events_shown branch event_names)) ∷ Positions shown ∷ Header ∷ Header ∷ Header
+    ∷ Header ∷ Command (clean_name cmd) ∷ Header ∷ Header ∷ Header ∷ Header ∷ Header ∷ Blank ∷ []
 
 heading_fine : (branch : Bool) (cmd shown : List ℕ) → words shown ≡ codes "line" ∷ []
     → bad_line (heading_read branch cmd shown) ≡ None
@@ -163,13 +163,13 @@ unfolding event_names
 heading_fine true cmd shown is = rw is refl
 heading_fine false cmd shown is = rw is refl
 
-events_read : (branch : Bool) → words (spaced (events_shown branch event_names)) ≡ events_shown branch event_names
+events_read : (branch : Bool) → words (words_text (events_shown branch event_names)) ≡ events_shown branch event_names
 unfolding event_names
 events_read true = refl
 events_read false = refl
 
 module _ (head : PartHead) (m : SymbolMap) (sum place shown : List ℕ) (spells : Spells place (Positions shown)) where
-  pub heading_same : read m (reverse (map Plain (heading_at head place sum))) ≡ heading_read head.branch head.cmd shown
+  pub heading_same : lines_of_marks m (reverse (map Plain (heading_at head place sum))) ≡ heading_read head.branch head.cmd shown
   heading_same =
       let costs : List ℕ = events_shown head.branch sum in
       λ i. (says_summary costs).said i ∷ (says_events head.branch).said i ∷ spells.said i

@@ -11,10 +11,10 @@ use Rattle.std.proofs.lemmas.List.Folds.{list_any-append}
 use Rattle.std.proofs.lemmas.Map.Keys.{IsDistinct-push}
 use Rattle.std.proofs.lemmas.Map.Steps.{length-le_from_distinct_below}
 use Rattle.std.proofs.lemmas.Slice.Eq.{bytes_eq-Decides}
-use Rattle.cg_format.specs.Marks.{added, id, is_in}
+use Rattle.cg_format.specs.Marks.{add_number, id, is_in}
 use Rattle.cg_read.specs.Meaning.{ids_after, text_of}
 use Rattle.cg_lines.specs.Shapes.{id_of}
-use Rattle.cg_lines.specs.declared.name.Name.TheVariants.{Known, Named}
+use Rattle.cg_lines.specs.declared.name.Name.TheVariants.{Id, Named}
 use Rattle.reads_back.proofs.NumberLemmas.{same_id}
 use Rattle.reads_back.proofs.ShapeLemmas.{id_read, name_read}
 
@@ -94,12 +94,12 @@ module _ (count : ℕ) (text : ℕ → List ℕ) (few : count < 2 ^ 32) (written
   named_known n = go (is_in written n) refl
     where
       go : (b : Bool) → is_in written n ≡ b
-          → text_of known (cond b (Known (id_read written n)) (Named (id_read written n) (text n))) ≡ Some (text n)
+          → text_of known (cond b (Id (id_read written n)) (Named (id_read written n) (text n))) ≡ Some (text n)
       go true is = ids.stands n is
       go false is = refl
 
   pub ids_named : (n : ℕ) → n < count
-      → AreIds count text (added written n) (λ q. ids_after known (name_read written n (text n)) q)
+      → AreIds count text (add_number written n) (λ q. ids_after known (name_read written n (text n)) q)
   ids_named n within = go (is_in written n) refl
     where
       q_below : (q : ℕ) → is_in written n ≡ false → is_in (written ++ n ∷ []) q ≡ true → q < count
@@ -152,7 +152,7 @@ module _ (count : ℕ) (text : ℕ → List ℕ) (few : count < 2 ^ 32) (written
 
       go : (b : Bool) → is_in written n ≡ b
           → AreIds count text (cond b written (written ++ n ∷ []))
-          (λ q. ids_after known (cond b (Known (id_read written n)) (Named (id_read written n) (text n))) q)
+          (λ q. ids_after known (cond b (Id (id_read written n)) (Named (id_read written n) (text n))) q)
       go true is = record { distinct = ids.distinct; below = ids.below; stands = ids.stands }
       go false is = record {
         distinct = IsDistinct-push nat_eq_equiv written n ids.distinct is;

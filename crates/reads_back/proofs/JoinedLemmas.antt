@@ -12,7 +12,7 @@ use Rattle.std.proofs.lemmas.List.Elements.{All-append, All-head, All-tail}
 use Rattle.std.proofs.lemmas.List.Folds.{list_any-append}
 use Rattle.std.proofs.lemmas.Slice.Eq.{bytes_eq-Decides}
 use Rattle.event_costs.specs.Costs.{IsWhole, event_names, events_shown}
-use Rattle.byte_text.specs.Names.{cleaned}
+use Rattle.byte_text.specs.Names.{clean_name}
 use Rattle.arc_costs.specs.Contents.{Listed}
 use Rattle.arc_costs.specs.Rows.{ArcRow, LineRow}
 use Rattle.sym_map.specs.Places.{unknown_function, unknown_name}
@@ -174,7 +174,7 @@ stay_whole m earlier rows whole fits = both_whole earlier rows whole (whole_rows
 same_naming : (head part : PartHead) (m : SymbolMap) → AreOfOneRun head part → naming part m ≡ naming head m
 same_naming head part m run = λ i. record {
   func = λ n. record {
-    object = cleaned (run.object i);
+    object = clean_name (run.object i);
     file = (identity_of m (record { 0 = n })).file;
     name = (identity_of m (record { 0 = n })).name;
   };

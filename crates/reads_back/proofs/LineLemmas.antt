@@ -8,7 +8,7 @@ use Rattle.std.proofs.lemmas.List.Concat.{flat_map-append}
 use Rattle.std.proofs.lemmas.List.Splits.{slice_split_at}
 use Rattle.byte_text.specs.Names.{is_printable}
 use Rattle.sym_map.specs.SymbolMap.{SymbolMap}
-use Rattle.cg_format.specs.Marks.{Mark, spelled, text_of}
+use Rattle.cg_format.specs.Marks.{Mark, mark_text, text_of}
 use Rattle.cg_lines.specs.Lines.{lines}
 use Rattle.cg_read.specs.Reading.{history, history_of}
 use Rattle.cg_lines.specs.Shapes.{line_of}
@@ -19,7 +19,7 @@ use Rattle.key_tables.specs.Same.{both_true}
 -- the lines' texts, first line first
 abbrev pub texts_of : SymbolMap → List Mark → List (List ℕ)
 texts_of m [] = []
-texts_of m (mark ∷ before) = texts_of m before ++ spelled m before mark ∷ []
+texts_of m (mark ∷ before) = texts_of m before ++ mark_text m before mark ∷ []
 
 abbrev joined : List (List ℕ) → List ℕ
 joined texts = flat_map (λ text. text ++ codes "\n") texts
@@ -27,7 +27,7 @@ joined texts = flat_map (λ text. text ++ codes "\n") texts
 pub text_is : (m : SymbolMap) (marks : List Mark) → text_of m marks ≡ joined (texts_of m marks)
 text_is m [] = refl
 text_is m (mark ∷ before) =
-    let line : List ℕ = spelled m before mark in
+    let line : List ℕ = mark_text m before mark in
     append_assoc (text_of m before) line (codes "\n")
     ∙ ap (λ (xs : List ℕ). xs ++ (line ++ codes "\n")) (text_is m before)
     ∙ ap (λ (xs : List ℕ). joined (texts_of m before) ++ xs) (sym (append-nil (line ++ codes "\n")))
@@ -36,7 +36,7 @@ text_is m (mark ∷ before) =
 -- all characters of all lines are printable
 abbrev pub AreClear : SymbolMap → List Mark → Type 0
 AreClear m [] = Unit {0}
-AreClear m (mark ∷ before) = AreClear m before × (list_all is_printable (spelled m before mark) ≡ true)
+AreClear m (mark ∷ before) = AreClear m before × (list_all is_printable (mark_text m before mark) ≡ true)
 
 abbrev pub is_clear_text : List ℕ → Type 0
 is_clear_text text = list_all is_printable text ≡ true
@@ -49,7 +49,7 @@ each_push (y ∷ ys) x all one = (all.0, each_push ys x all.1 one)
 pub all_clear : (m : SymbolMap) (marks : List Mark) → AreClear m marks → AllByRecursion is_clear_text (texts_of m marks)
 all_clear m [] clear = tt
 all_clear m (mark ∷ before) clear =
-    each_push (texts_of m before) (spelled m before mark) (all_clear m before clear.0) clear.1
+    each_push (texts_of m before) (mark_text m before mark) (all_clear m before clear.0) clear.1
 
 printable_no_feed : (b : ℕ) → is_printable b ≡ true → (b == 10) ≡ false
 printable_no_feed b e = grind (arith, nat_tests)
@@ -69,20 +69,20 @@ split_joined (text ∷ texts) all =
     ∙ ap (λ (ts : List (List ℕ)). text ∷ ts) (split_joined texts all.1)
 
 -- what the lines say, the newest first
-abbrev pub read : SymbolMap → List Mark → List Line
-read m [] = []
-read m (mark ∷ before) = line_of (spelled m before mark) ∷ read m before
+abbrev pub lines_of_marks : SymbolMap → List Mark → List Line
+lines_of_marks m [] = []
+lines_of_marks m (mark ∷ before) = line_of (mark_text m before mark) ∷ lines_of_marks m before
 
-read_is : (m : SymbolMap) (marks : List Mark) → history_of (texts_of m marks) ≡ read m marks
+read_is : (m : SymbolMap) (marks : List Mark) → history_of (texts_of m marks) ≡ lines_of_marks m marks
 read_is m [] = refl
 read_is m (mark ∷ before) =
-    ap reverse (map-append line_of (texts_of m before) (spelled m before mark ∷ []))
-    ∙ reverse-append (map line_of (texts_of m before)) (line_of (spelled m before mark) ∷ [])
-    ∙ ap (λ (ls : List Line). line_of (spelled m before mark) ∷ ls) (read_is m before)
+    ap reverse (map-append line_of (texts_of m before) (mark_text m before mark ∷ []))
+    ∙ reverse-append (map line_of (texts_of m before)) (line_of (mark_text m before mark) ∷ [])
+    ∙ ap (λ (ls : List Line). line_of (mark_text m before mark) ∷ ls) (read_is m before)
 
 -- the last line feed is followed by an empty line
 pub history_is : (m : SymbolMap) (marks : List Mark) → AreClear m marks
-    → history (text_of m marks) ≡ Blank ∷ read m marks
+    → history (text_of m marks) ≡ Blank ∷ lines_of_marks m marks
 history_is m marks clear =
     ap history (text_is m marks)
     ∙ ap history_of (split_joined (texts_of m marks) (all_clear m marks clear))

@@ -17,7 +17,7 @@ use Rattle.std.proofs.lemmas.Str.{digit_value_digit}
 use Rattle.byte_text.specs.Names.{is_printable}
 use Rattle.cg_format.specs.Marks.{cost_text}
 use Rattle.cg_lines.specs.Lines.{is_some_word, words}
-use Rattle.cg_lines.specs.Numbers.{limited, number_of, numeral}
+use Rattle.cg_lines.specs.Numbers.{checked_number, number_of, numeral}
 use Rattle.cg_lines.specs.Shapes.{id_of}
 use Rattle.cg_lines.specs.declared.number.Number.TheVariants.{Fits, TooLarge}
 use Rattle.key_tables.specs.Same.{both_true}
@@ -161,10 +161,10 @@ not_empty : (n : ℕ) → 0 < n → not (n == 0) ≡ true
 not_empty n some = grind (arith, nat_tests)
 
 number_digits : (ds : List ℕ) → list_all is_ascii_digit ds ≡ true → 0 < length ds
-    → number_of ds ≡ Some (limited (digits_value 10 ds))
+    → number_of ds ≡ Some (checked_number (digits_value 10 ds))
 number_digits ds all some =
     ap (λ b. cond b (numeral 16 (drop 2 ds)) (numeral 10 ds)) (no_prefix ds all)
-    ∙ ap (λ b. cond b (Some (limited (digits_value 10 ds))) None)
+    ∙ ap (λ b. cond b (Some (checked_number (digits_value 10 ds))) None)
     (and_from (not (length ds == 0)) (list_all (λ c. is_digit c 10) ds) (not_empty (length ds) some)
     (digits_fit ds all))
 
@@ -174,7 +174,7 @@ in_limit n small = grind (arith, nat_tests)
 pub number_decimal : (n : ℕ) → n < 2 ^ 64 → number_of (decimal n) ≡ Some (Fits n)
 number_decimal n small =
     number_digits (decimal n) (decimal_digits n) (decimal_some n)
-    ∙ ap (λ v. Some (limited v)) (decimal_is_IsNumeral n small).1
+    ∙ ap (λ v. Some (checked_number v)) (decimal_is_IsNumeral n small).1
     ∙ ap (λ b. Some (cond b (Fits n) TooLarge)) (in_limit n small)
 
 -- Ids: leading zeros say nothing

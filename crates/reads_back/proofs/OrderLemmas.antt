@@ -17,7 +17,7 @@ use Rattle.event_costs.specs.Order.{arc_order, place_order}
 use Rattle.arc_costs.specs.Rows.{ArcRow, LineRow}
 use Rattle.sym_map.specs.SymbolMap.{SymbolMap}
 use Rattle.cg_format.specs.Part.{AreKnown}
-use Rattle.cg_format.specs.Rows.{all_rows, below, by_function, is_of}
+use Rattle.cg_format.specs.Rows.{all_rows, below, by_function, is_row_of}
 use Rattle.cg_format.specs.declared.head.PartHead.{PartHead}
 use Rattle.cg_format.specs.declared.row.Row.{Row}
 use Rattle.cg_format.specs.declared.row.Row.TheVariants.{Line, Arc}
@@ -98,54 +98,54 @@ arcs_grouped n arcs sorted small =
 -- The rows of a function
 
 module _ (head : PartHead) (m : SymbolMap) (k : ℕ) where
-  selfs_arcs : (arcs : List ArcRow) → flat_map (selfs_of head m) (filter (is_of k) (map Arc arcs)) ≡ []
+  selfs_arcs : (arcs : List ArcRow) → flat_map (selfs_of head m) (filter (is_row_of k) (map Arc arcs)) ≡ []
   selfs_arcs [] = refl
-  selfs_arcs (row ∷ arcs) = go (is_of k (Arc row)) (selfs_arcs arcs)
+  selfs_arcs (row ∷ arcs) = go (is_row_of k (Arc row)) (selfs_arcs arcs)
     where
-      go : (b : Bool) → flat_map (selfs_of head m) (filter (is_of k) (map Arc arcs)) ≡ []
+      go : (b : Bool) → flat_map (selfs_of head m) (filter (is_row_of k) (map Arc arcs)) ≡ []
           → flat_map (selfs_of head m)
-          (cond b (Arc row ∷ filter (is_of k) (map Arc arcs)) (filter (is_of k) (map Arc arcs))) ≡ []
+          (cond b (Arc row ∷ filter (is_row_of k) (map Arc arcs)) (filter (is_row_of k) (map Arc arcs))) ≡ []
       go true rest = rest
       go false rest = rest
 
-  selfs_lines : (lines : List LineRow) (more : List Row) → flat_map (selfs_of head m) (filter (is_of k) more) ≡ []
-      → flat_map (selfs_of head m) (filter (is_of k) (map Line lines ++ more))
+  selfs_lines : (lines : List LineRow) (more : List Row) → flat_map (selfs_of head m) (filter (is_row_of k) more) ≡ []
+      → flat_map (selfs_of head m) (filter (is_row_of k) (map Line lines ++ more))
       ≡ map (named_line (naming head m)) (filter (line_at k) lines)
   selfs_lines [] more none = none
   selfs_lines (row ∷ lines) more none = go (line_at k row) (selfs_lines lines more none)
     where
-      go : (b : Bool) → flat_map (selfs_of head m) (filter (is_of k) (map Line lines ++ more))
+      go : (b : Bool) → flat_map (selfs_of head m) (filter (is_row_of k) (map Line lines ++ more))
           ≡ map (named_line (naming head m)) (filter (line_at k) lines)
           → flat_map (selfs_of head m)
-          (cond b (Line row ∷ filter (is_of k) (map Line lines ++ more)) (filter (is_of k) (map Line lines ++ more)))
+          (cond b (Line row ∷ filter (is_row_of k) (map Line lines ++ more)) (filter (is_row_of k) (map Line lines ++ more)))
           ≡ map (named_line (naming head m)) (cond b (row ∷ filter (line_at k) lines) (filter (line_at k) lines))
       go true rest = ap (λ rows. named_line (naming head m) row ∷ rows) rest
       go false rest = rest
 
-  calls_arcs : (arcs : List ArcRow) → flat_map (calls_of head m) (filter (is_of k) (map Arc arcs))
+  calls_arcs : (arcs : List ArcRow) → flat_map (calls_of head m) (filter (is_row_of k) (map Arc arcs))
       ≡ map (named_arc (naming head m)) (filter (arc_at k) arcs)
   calls_arcs [] = refl
   calls_arcs (row ∷ arcs) = go (arc_at k row) (calls_arcs arcs)
     where
-      go : (b : Bool) → flat_map (calls_of head m) (filter (is_of k) (map Arc arcs))
+      go : (b : Bool) → flat_map (calls_of head m) (filter (is_row_of k) (map Arc arcs))
           ≡ map (named_arc (naming head m)) (filter (arc_at k) arcs)
           → flat_map (calls_of head m)
-          (cond b (Arc row ∷ filter (is_of k) (map Arc arcs)) (filter (is_of k) (map Arc arcs)))
+          (cond b (Arc row ∷ filter (is_row_of k) (map Arc arcs)) (filter (is_row_of k) (map Arc arcs)))
           ≡ map (named_arc (naming head m)) (cond b (row ∷ filter (arc_at k) arcs) (filter (arc_at k) arcs))
       go true rest = ap (λ rows. named_arc (naming head m) row ∷ rows) rest
       go false rest = rest
 
   calls_lines : (lines : List LineRow) (more : List Row)
-      → flat_map (calls_of head m) (filter (is_of k) (map Line lines ++ more))
-      ≡ flat_map (calls_of head m) (filter (is_of k) more)
+      → flat_map (calls_of head m) (filter (is_row_of k) (map Line lines ++ more))
+      ≡ flat_map (calls_of head m) (filter (is_row_of k) more)
   calls_lines [] more = refl
   calls_lines (row ∷ lines) more = go (line_at k row) (calls_lines lines more)
     where
-      go : (b : Bool) → flat_map (calls_of head m) (filter (is_of k) (map Line lines ++ more))
-          ≡ flat_map (calls_of head m) (filter (is_of k) more)
+      go : (b : Bool) → flat_map (calls_of head m) (filter (is_row_of k) (map Line lines ++ more))
+          ≡ flat_map (calls_of head m) (filter (is_row_of k) more)
           → flat_map (calls_of head m)
-          (cond b (Line row ∷ filter (is_of k) (map Line lines ++ more)) (filter (is_of k) (map Line lines ++ more)))
-          ≡ flat_map (calls_of head m) (filter (is_of k) more)
+          (cond b (Line row ∷ filter (is_row_of k) (map Line lines ++ more)) (filter (is_row_of k) (map Line lines ++ more)))
+          ≡ flat_map (calls_of head m) (filter (is_row_of k) more)
       go true rest = rest
       go false rest = rest
 
@@ -156,8 +156,8 @@ pub lines_in_order : (head : PartHead) (m : SymbolMap) (rows : Listed) → AreKn
     → flat_map (selfs_of head m) (by_function (length m.functions) (all_rows rows)) ≡ lines_read head m rows.lines
 lines_in_order head m rows known sorted =
     let ks : List ℕ = below (length m.functions) in
-    flat_map_twice (selfs_of head m) (λ k. filter (is_of k) (all_rows rows)) ks
-    ∙ flat_map_alike (λ k. flat_map (selfs_of head m) (filter (is_of k) (all_rows rows)))
+    flat_map_twice (selfs_of head m) (λ k. filter (is_row_of k) (all_rows rows)) ks
+    ∙ flat_map_alike (λ k. flat_map (selfs_of head m) (filter (is_row_of k) (all_rows rows)))
     (λ k. map (named_line (naming head m)) (filter (line_at k) rows.lines))
     (λ k. selfs_lines head m k rows.lines (map Arc rows.arcs) (selfs_arcs head m k rows.arcs)) ks
     ∙ flat_map_mapped (named_line (naming head m)) (λ k. filter (line_at k) rows.lines) ks
@@ -169,8 +169,8 @@ pub arcs_in_order : (head : PartHead) (m : SymbolMap) (rows : Listed) → AreKno
     → flat_map (calls_of head m) (by_function (length m.functions) (all_rows rows)) ≡ arcs_read head m rows.arcs
 arcs_in_order head m rows known sorted =
     let ks : List ℕ = below (length m.functions) in
-    flat_map_twice (calls_of head m) (λ k. filter (is_of k) (all_rows rows)) ks
-    ∙ flat_map_alike (λ k. flat_map (calls_of head m) (filter (is_of k) (all_rows rows)))
+    flat_map_twice (calls_of head m) (λ k. filter (is_row_of k) (all_rows rows)) ks
+    ∙ flat_map_alike (λ k. flat_map (calls_of head m) (filter (is_row_of k) (all_rows rows)))
     (λ k. map (named_arc (naming head m)) (filter (arc_at k) rows.arcs))
     (λ k. calls_lines head m k rows.lines (map Arc rows.arcs) ∙ calls_arcs head m k rows.arcs) ks
     ∙ flat_map_mapped (named_arc (naming head m)) (λ k. filter (arc_at k) rows.arcs) ks

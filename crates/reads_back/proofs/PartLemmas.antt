@@ -17,7 +17,7 @@ use Rattle.sym_map.specs.SymbolMap.{SymbolMap}
 use Rattle.cg_format.specs.Heading.{heading, totals}
 use Rattle.cg_format.specs.Marks.{Mark, Plain}
 use Rattle.cg_format.specs.Part.{after_row, part_lines, part_text}
-use Rattle.cg_format.specs.Rows.{all_rows, below, by_function, is_of}
+use Rattle.cg_format.specs.Rows.{all_rows, below, by_function, is_row_of}
 use Rattle.cg_format.specs.Sums.{sum_of_lines}
 use Rattle.cg_format.specs.declared.head.PartHead.{PartHead}
 use Rattle.cg_format.specs.declared.row.Row.{Row}
@@ -55,10 +55,10 @@ appended m [] ys all more = more
 appended m (x ∷ xs) ys all more = (all.0, appended m xs ys all.1 more)
 
 in_groups : (m : SymbolMap) (rows : List Row) (ks : List ℕ) → AllByRecursion (CanWrite m) rows
-    → AllByRecursion (CanWrite m) (flat_map (λ k. filter (is_of k) rows) ks)
+    → AllByRecursion (CanWrite m) (flat_map (λ k. filter (is_row_of k) rows) ks)
 in_groups m rows [] all = tt
 in_groups m rows (k ∷ ks) all =
-    appended m (filter (is_of k) rows) (flat_map (λ j. filter (is_of j) rows) ks) (filtered m (is_of k) rows all)
+    appended m (filter (is_row_of k) rows) (flat_map (λ j. filter (is_row_of j) rows) ks) (filtered m (is_row_of k) rows all)
     (in_groups m rows ks all)
 
 lines_writable : (m : SymbolMap) (lines : List LineRow)
@@ -155,8 +155,8 @@ module _ (head : PartHead) (rows : Listed) (m : SymbolMap) (sound : IsSound m) (
   writable =
       in_groups m (all_rows rows) (below (length m.functions))
       (appended m (map Line rows.lines) (map Arc rows.arcs)
-      (lines_writable m rows.lines fits.known.lines fits.lines_fit)
-      (arcs_writable m rows.arcs fits.known.arcs fits.arcs_fit))
+      (lines_writable m rows.lines fits.of_map.lines fits.lines_fit)
+      (arcs_writable m rows.arcs fits.of_map.arcs fits.arcs_fit))
 
   -- what the reader knows at the end
   whole : Standing head m (part_lines head rows m) (lines_read head m rows.lines) (arcs_read head m rows.arcs)
@@ -164,9 +164,9 @@ module _ (head : PartHead) (rows : Listed) (m : SymbolMap) (sound : IsSound m) (
       let sum : List ℕ = sum_of_lines rows.lines in
       let written : List Row = by_function (length m.functions) (all_rows rows) in
       subst (λ (s : List NamedSelf). Standing head m (part_lines head rows m) s (arcs_read head m rows.arcs))
-      (lines_in_order head m rows fits.known fits.lines_rise)
+      (lines_in_order head m rows fits.of_map fits.lines_rise)
       (subst (λ (c : List NamedCall). Standing head m (part_lines head rows m) (flat_map (selfs_of head m) written) c)
-      (arcs_in_order head m rows fits.known fits.arcs_rise)
+      (arcs_in_order head m rows fits.of_map fits.arcs_rise)
       (after_all head m sound sum (reverse (map Plain (heading head sum))) written writable (after_heading head m sum)))
 
   history_at_end : history (part_text head rows m) ≡ end_history head rows m (part_lines head rows m) whole

@@ -15,19 +15,19 @@ use Rattle.event_costs.specs.declared.numbers.FileId.{FileId}
 use Rattle.event_costs.specs.declared.numbers.FuncId.{FuncId}
 use Rattle.sym_map.specs.SymbolMap.{SymbolMap, file_text, identity_of}
 use Rattle.cg_format.specs.Marks.{Mark, File, Function, Callee, Calls, Costs, cost_text, files, functions, id}
-use Rattle.cg_format.specs.Marks.{is_in, named, spelled}
+use Rattle.cg_format.specs.Marks.{is_in, id_text, mark_text}
 use Rattle.cg_format.specs.declared.file_key.FileKey.{FileKey}
 use Rattle.cg_format.specs.declared.file_key.FileKey.TheVariants.{Home, Other, Back, OfCallee}
-use Rattle.cg_lines.specs.Lines.{is_space, stripped, without_front, words}
+use Rattle.cg_lines.specs.Lines.{is_space, strip, without_front, words}
 use Rattle.cg_lines.specs.Numbers.{number_of}
-use Rattle.cg_lines.specs.Shapes.{begins_place, bracketed_name, calls_line, calls_with, cost_line, cost_with, id_of}
-use Rattle.cg_lines.specs.Shapes.{line_of, name_of, name_with_id, place_of, shape}
+use Rattle.cg_lines.specs.Shapes.{begins_position, bracketed_name, calls_line, calls_with, cost_line, cost_with, id_of}
+use Rattle.cg_lines.specs.Shapes.{line_of, name_of, name_with_id, sub_position_of, shape}
 use Rattle.cg_lines.specs.declared.line.Line.{Line}
 use Rattle.cg_lines.specs.declared.line.Line.TheVariants as line
 use Rattle.cg_lines.specs.declared.name.Name.{Name}
 use Rattle.cg_lines.specs.declared.name.Name.TheVariants as name
 use Rattle.cg_lines.specs.declared.number.Number.TheVariants.{Fits}
-use Rattle.cg_lines.specs.declared.place.Place.TheVariants.{At}
+use Rattle.cg_lines.specs.declared.sub_position.SubPosition.TheVariants.{At}
 use Rattle.key_tables.specs.Same.{both_true}
 use Rattle.reads_back.proofs.TextLemmas.{IsText, clear-append, stripped_kept, text-append}
 use Rattle.reads_back.proofs.CleanLemmas.{IsName, name-text, seen_no_space}
@@ -47,7 +47,7 @@ id_read written number = id_of (decimal (id written number))
 -- the name that is written for a number
 abbrev pub name_read : List ℕ → ℕ → List ℕ → Name
 name_read written number text =
-    if is_in written number then name.Known (id_read written number) else name.Named (id_read written number) text
+    if is_in written number then name.Id (id_read written number) else name.Named (id_read written number) text
 
 -- a list of elements that pass, up to one that doesn't
 pub front : (p : ℕ → Bool) (xs : List ℕ) (y : ℕ) (ys : List ℕ) → list_all p xs ≡ true → p y ≡ false
@@ -86,7 +86,7 @@ new_name ident text n =
 
 -- how a named line ends, and what its name is
 pub name_of-named : (written : List ℕ) (number : ℕ) (text : List ℕ) → IsName text
-    → name_of (named written number text) ≡ name_read written number text
+    → name_of (id_text written number text) ≡ name_read written number text
 name_of-named written number text n = go (is_in written number)
   where
     ds : List ℕ
@@ -94,7 +94,7 @@ name_of-named written number text n = go (is_in written number)
 
     go : (b : Bool)
         → name_of (codes "(" ++ decimal (id written number) ++ codes ")" ++ cond b [] (codes " " ++ text))
-        ≡ cond b (name.Known (id_read written number)) (name.Named (id_read written number) text)
+        ≡ cond b (name.Id (id_read written number)) (name.Named (id_read written number) text)
     go true =
         ap (λ (xs : List ℕ). name_of (40 ∷ xs)) (append_assoc (decimal (id written number)) (41 ∷ []) [])
         ∙ bracketed (decimal (id written number)) [] (decimal_digits (id written number))
@@ -106,7 +106,7 @@ name_of-named written number text n = go (is_in written number)
         ∙ new_name (id_read written number) text n
 
 -- the text of a name is printable, and its last character is seen
-named_text : (written : List ℕ) (number : ℕ) (text : List ℕ) → IsName text → IsText (named written number text)
+named_text : (written : List ℕ) (number : ℕ) (text : List ℕ) → IsName text → IsText (id_text written number text)
 named_text written number text n = go (is_in written number)
   where
     head_clear : list_all is_printable (codes "(" ++ decimal (id written number)) ≡ true
@@ -138,19 +138,19 @@ file_line OfCallee n = line.CalleeFile n
 
 named_line : (first : ℕ) (key : List ℕ) (written : List ℕ) (number : ℕ) (text : List ℕ) (made : Name → Line)
     → is_blank first ≡ false → list_all is_printable (first ∷ key) ≡ true
-    → shape ((first ∷ key) ++ named written number text) ≡ made (name_of (named written number text))
-    → IsName text → Spells ((first ∷ key) ++ named written number text) (made (name_read written number text))
+    → shape ((first ∷ key) ++ id_text written number text) ≡ made (name_of (id_text written number text))
+    → IsName text → Spells ((first ∷ key) ++ id_text written number text) (made (name_read written number text))
 named_line first key written number text made front clear shaped n =
-    let whole : IsText ((first ∷ key) ++ named written number text)
-    = text-append (first ∷ key) (named written number text) clear (named_text written number text n) in
+    let whole : IsText ((first ∷ key) ++ id_text written number text)
+    = text-append (first ∷ key) (id_text written number text) clear (named_text written number text n) in
     record {
       clear = whole.clear;
-      said = ap shape (stripped_kept first (key ++ named written number text) front whole)
+      said = ap shape (stripped_kept first (key ++ id_text written number text) front whole)
           ∙ shaped ∙ ap made (name_of-named written number text n);
     }
 
 pub spells_file : (m : SymbolMap) (before : List Mark) (key : FileKey) (file : FileId) → IsName (file_text m file)
-    → Spells (spelled m before (File key file)) (file_line key (name_read (files before) file.0 (file_text m file)))
+    → Spells (mark_text m before (File key file)) (file_line key (name_read (files before) file.0 (file_text m file)))
 spells_file m before Home file n =
     named_line 102 (108 ∷ 61 ∷ []) (files before) file.0 (file_text m file) line.File refl refl refl n
 spells_file m before Other file n =
@@ -161,12 +161,12 @@ spells_file m before OfCallee file n =
     named_line 99 (102 ∷ 105 ∷ 61 ∷ []) (files before) file.0 (file_text m file) line.CalleeFile refl refl refl n
 
 pub spells_function : (m : SymbolMap) (before : List Mark) (f : FuncId) → IsName (identity_of m f).name
-    → Spells (spelled m before (Function f)) (line.Function (name_read (functions before) f.0 (identity_of m f).name))
+    → Spells (mark_text m before (Function f)) (line.Function (name_read (functions before) f.0 (identity_of m f).name))
 spells_function m before f n =
     named_line 102 (110 ∷ 61 ∷ []) (functions before) f.0 (identity_of m f).name line.Function refl refl refl n
 
 pub spells_callee : (m : SymbolMap) (before : List Mark) (f : FuncId) → IsName (identity_of m f).name
-    → Spells (spelled m before (Callee f)) (line.Callee (name_read (functions before) f.0 (identity_of m f).name))
+    → Spells (mark_text m before (Callee f)) (line.Callee (name_read (functions before) f.0 (identity_of m f).name))
 spells_callee m before f n =
     named_line 99 (102 ∷ 110 ∷ 61 ∷ []) (functions before) f.0 (identity_of m f).name line.Callee refl refl refl n
 
@@ -177,22 +177,22 @@ pub digit_no_place : (d : ℕ) → is_ascii_digit d ≡ true
 digit_no_place d e =
     (grind (arith, nat_tests), grind (arith, nat_tests), grind (arith, nat_tests), grind (arith, nat_tests))
 
-pub place_decimal : (n : ℕ) → n < 2 ^ 64 → place_of (decimal n) ≡ Some (At (Fits n))
+pub place_decimal : (n : ℕ) → n < 2 ^ 64 → sub_position_of (decimal n) ≡ Some (At (Fits n))
 place_decimal n small =
     let parts = decimal_parts n in
     let other = digit_no_place parts.first parts.digit in
     let rest : List ℕ = parts.rest in
-    ap place_of parts.is
+    ap sub_position_of parts.is
     ∙ plain parts.first rest other.0 other.1 other.2
     ∙ ap (λ (ds : List ℕ). option_map At (number_of ds)) (sym parts.is)
     ∙ ap (option_map At) (number_decimal n small)
   where
     plain : (d : ℕ) (rest : List ℕ) → (d == 42) ≡ false → (d == 43) ≡ false → (d == 45) ≡ false
-        → place_of (d ∷ rest) ≡ option_map At (number_of (d ∷ rest))
+        → sub_position_of (d ∷ rest) ≡ option_map At (number_of (d ∷ rest))
     plain d rest p q r = rw (p, q, r) refl
 
 pub spells_calls : (m : SymbolMap) (before : List Mark) (calls entry : ℕ) → calls < 2 ^ 64 → entry < 2 ^ 64
-    → Spells (spelled m before (Calls calls entry)) (line.Calls (Fits calls) (At (Fits entry)))
+    → Spells (mark_text m before (Calls calls entry)) (line.Calls (Fits calls) (At (Fits entry)))
 spells_calls m before calls entry calls_small entry_small =
     let whole : IsText (codes "calls=" ++ decimal calls ++ codes " " ++ decimal entry) =
     text-append (codes "calls=" ++ decimal calls ++ codes " ") (decimal entry)
@@ -204,7 +204,7 @@ spells_calls m before calls entry calls_small entry_small =
           refl whole)
           ∙ ap (λ (text : List ℕ). calls_line (words text)) (append_assoc (decimal calls) (codes " ") (decimal entry))
           ∙ ap calls_line (words_more calls (decimal entry) ∙ ap (λ ws. decimal calls ∷ ws) (words_one entry))
-          ∙ ap (λ n. calls_with n (place_of (decimal entry))) (number_decimal calls calls_small)
+          ∙ ap (λ n. calls_with n (sub_position_of (decimal entry))) (number_decimal calls calls_small)
           ∙ ap (calls_with (Some (Fits calls))) (place_decimal entry entry_small);
     }
 
@@ -217,7 +217,7 @@ costs_after text (cost ∷ costs) t =
     (text-append text (codes " " ++ decimal cost) t.clear (text-append (codes " ") (decimal cost) refl
     (text-decimal cost))))
 
-pub digit_begins : (d : ℕ) → is_ascii_digit d ≡ true → begins_place d ≡ true
+pub digit_begins : (d : ℕ) → is_ascii_digit d ≡ true → begins_position d ≡ true
 digit_begins d e = ap (λ b. b || d == 42 || d == 43 || d == 45) e
 
 no_space_front : (n : ℕ) (rest : List ℕ) → position_or_len is_space (decimal n ++ 32 ∷ rest) ≡ length (decimal n)
@@ -238,7 +238,7 @@ costs_read [] = []
 costs_read (cost ∷ costs) = decimal cost ++ cost_text costs
 
 pub spells_costs : (m : SymbolMap) (before : List Mark) (at cost : ℕ) (costs : List ℕ) → at < 2 ^ 64
-    → Spells (spelled m before (Costs at (cost ∷ costs))) (line.Cost (At (Fits at)) (costs_read (cost ∷ costs)))
+    → Spells (mark_text m before (Costs at (cost ∷ costs))) (line.Cost (At (Fits at)) (costs_read (cost ∷ costs)))
 spells_costs m before at cost costs small =
     let whole : IsText (decimal at ++ cost_text (cost ∷ costs)) =
     costs_after (decimal at) (cost ∷ costs) (text-decimal at) in
@@ -248,19 +248,19 @@ spells_costs m before at cost costs small =
       clear = whole.clear;
       said = ap shape (kept (decimal_parts at).is (decimal_parts at).digit whole)
           ∙ begun (decimal_parts at).is (decimal_parts at).digit
-          ∙ ap (λ n. cost_with (place_of (take n text)) (drop (n + 1) text)) (no_space_front at rest)
-          ∙ ap (λ (ds : List ℕ). cost_with (place_of ds) (drop (length (decimal at) + 1) text))
+          ∙ ap (λ n. cost_with (sub_position_of (take n text)) (drop (n + 1) text)) (no_space_front at rest)
+          ∙ ap (λ (ds : List ℕ). cost_with (sub_position_of ds) (drop (length (decimal at) + 1) text))
           (take_at (decimal at) (32 ∷ rest) (length (decimal at)) refl)
-          ∙ ap (cost_with (place_of (decimal at))) (behind (decimal at))
+          ∙ ap (cost_with (sub_position_of (decimal at))) (behind (decimal at))
           ∙ ap (λ p. cost_with p rest) (place_decimal at small);
     }
   where
     kept : {d : ℕ} {ds : List ℕ} → decimal at ≡ d ∷ ds → is_ascii_digit d ≡ true
         → IsText (decimal at ++ cost_text (cost ∷ costs))
-        → stripped (decimal at ++ cost_text (cost ∷ costs)) ≡ decimal at ++ cost_text (cost ∷ costs)
+        → strip (decimal at ++ cost_text (cost ∷ costs)) ≡ decimal at ++ cost_text (cost ∷ costs)
     kept {d} {ds} is digit whole =
         subst (λ (xs : List ℕ). IsText (xs ++ cost_text (cost ∷ costs))
-        → stripped (xs ++ cost_text (cost ∷ costs)) ≡ xs ++ cost_text (cost ∷ costs)) (sym is)
+        → strip (xs ++ cost_text (cost ∷ costs)) ≡ xs ++ cost_text (cost ∷ costs)) (sym is)
         (stripped_kept d (ds ++ cost_text (cost ∷ costs)) (digit_no_blank d digit)) whole
 
     begun : {d : ℕ} {ds : List ℕ} → decimal at ≡ d ∷ ds → is_ascii_digit d ≡ true

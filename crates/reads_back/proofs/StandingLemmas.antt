@@ -3,7 +3,7 @@ use Rattle.sym_map.specs.Places.{Identity, unknown_function, unknown_name}
 use Rattle.sym_map.specs.SymbolMap.{identity_in}
 use Rattle.std.proofs.Common.{get_or}
 use Rattle.std.proofs.lemmas.List.{get_or-map}
-use Rattle.cg_format.specs.Marks.{spelled}
+use Rattle.cg_format.specs.Marks.{mark_text}
 use Rattle.std.specs.Option.{option_map_or}
 use Rattle.std.proofs.Common.{◌≡◌, ℕ, suc, ◌+◌, ◌&&◌, ◌<◌, ◌^◌, Bool, true, false, not, ◌==◌, cond, List, []}
 use Rattle.std.proofs.Common.{◌∷◌, ◌++◌, length, Option}
@@ -11,13 +11,13 @@ use Rattle.std.proofs.Common.{Some, None, is_some, unwrap_or, option_map, refl, 
 use Rattle.std.proofs.Common.{append-nil}
 use Rattle.std.proofs.lemmas.Bool.Decides.{nat_tests}
 use Rattle.event_costs.specs.Costs.{event_names, events_shown}
-use Rattle.byte_text.specs.Names.{cleaned, unknown}
+use Rattle.byte_text.specs.Names.{clean_name, unknown}
 use Rattle.event_costs.specs.declared.numbers.FileId.{FileId}
 use Rattle.event_costs.specs.declared.numbers.FuncId.{FuncId}
 use Rattle.sym_map.specs.SymbolMap.{IsCleaned, IsSound}
 use Rattle.sym_map.specs.SymbolMap.{SymbolMap, IsFile, IsFunc, file_text, home_of, identity_of}
 use Rattle.cg_format.specs.Heading.{object_line}
-use Rattle.cg_format.specs.Marks.{Mark, Plain, File, Function, Callee, Calls, Costs, added, files, functions, is_in}
+use Rattle.cg_format.specs.Marks.{Mark, Plain, File, Function, Callee, Calls, Costs, add_number, files, functions, is_in}
 use Rattle.cg_format.specs.Part.{current_file, current_function}
 use Rattle.cg_format.specs.declared.file_key.FileKey.{FileKey}
 use Rattle.cg_format.specs.declared.file_key.FileKey.TheVariants.{Home, Other, Back, OfCallee}
@@ -34,12 +34,12 @@ use Rattle.cg_lines.specs.declared.line.Line.{Line}
 use Rattle.cg_lines.specs.declared.line.Line.TheVariants as line
 use Rattle.cg_lines.specs.declared.name.Name.TheVariants.{Named}
 use Rattle.cg_lines.specs.declared.number.Number.TheVariants.{Fits}
-use Rattle.cg_lines.specs.declared.place.Place.TheVariants.{At}
+use Rattle.cg_lines.specs.declared.sub_position.SubPosition.TheVariants.{At}
 use Rattle.reads_back.specs.Rows.{key_of}
 use Rattle.reads_back.proofs.CleanLemmas.{IsName, cleaned_name}
 use Rattle.reads_back.proofs.CostLemmas.{cost_fine, cost_read}
 use Rattle.reads_back.proofs.IdLemmas.{AreIds, ids_named, named_known}
-use Rattle.reads_back.proofs.LineLemmas.{AreClear, read}
+use Rattle.reads_back.proofs.LineLemmas.{AreClear, lines_of_marks}
 use Rattle.reads_back.proofs.ShapeLemmas.{Spells, costs_read, name_read, spells_callee, spells_calls}
 use Rattle.reads_back.proofs.ShapeLemmas.{spells_costs, spells_file, spells_function}
 
@@ -56,12 +56,12 @@ pub record Stands (head : PartHead) (m : SymbolMap) (named : Bool) (before : Lis
     (selfs : List NamedSelf) (calls : List NamedCall) : Type 0 where
   pub history : List Line
   pub clear : AreClear m before
-  pub same : read m before ≡ history
+  pub same : lines_of_marks m before ≡ history
   pub fine : bad_line history ≡ None
   pub no_call : meaning.open_call history ≡ None
   pub events : meaning.events history ≡ Some (events_shown head.branch event_names)
-  pub command : meaning.command history ≡ Some (cleaned head.cmd)
-  pub object : named ≡ true → meaning.current_object history ≡ cleaned head.object
+  pub command : meaning.command history ≡ Some (clean_name head.cmd)
+  pub object : named ≡ true → meaning.current_object history ≡ clean_name head.object
   pub written : (length (functions before) == 0) ≡ false → named ≡ true
   pub begun : (f : FuncId) → current_function before ≡ Some f → (length (functions before) == 0) ≡ false
   pub file : (f : FileId) → current_file before ≡ Some f → meaning.current_file history ≡ file_text m f
@@ -93,7 +93,7 @@ fine_more history l fine closed alone =
 not_zero : (n : ℕ) → (suc n == 0) ≡ false
 not_zero n = grind (arith, nat_tests)
 
-added_some : (written : List ℕ) (n : ℕ) → (length (added written n) == 0) ≡ false
+added_some : (written : List ℕ) (n : ℕ) → (length (add_number written n) == 0) ≡ false
 added_some written n = go (is_in written n) refl
   where
     some : (xs : List ℕ) → (length (xs ++ n ∷ []) == 0) ≡ false
@@ -184,11 +184,11 @@ module _ (head : PartHead) (m : SymbolMap) (sound : IsSound m) (few_functions : 
 
   -- the object
   pub after_object : (named : Bool) (before : List Mark) (selfs : List NamedSelf) (calls : List NamedCall)
-      → Spells (object_line head) (line.Object (Named (49 ∷ []) (cleaned head.object)))
+      → Spells (object_line head) (line.Object (Named (49 ∷ []) (clean_name head.object)))
       → Stands head m named before None selfs calls → Stands head m true (Plain
       (object_line head) ∷ before) None selfs calls
   after_object named before selfs calls spells s =
-      let l : Line = line.Object (Named (49 ∷ []) (cleaned head.object)) in
+      let l : Line = line.Object (Named (49 ∷ []) (clean_name head.object)) in
       record {
         history = l ∷ s.history;
         clear = (s.clear, spells.clear);
@@ -233,7 +233,7 @@ module _ (head : PartHead) (m : SymbolMap) (sound : IsSound m) (few_functions : 
       (calls : List NamedCall)
       → IsFile m f → current_file (File key f ∷ before) ≡ Some f → current_function (File key f ∷ before)
       ≡ current_function before
-      → Spells (spelled m before (File key f))
+      → Spells (mark_text m before (File key f))
       (line.File (name_read (files before) f.0 (file_text m f)))
       → Stands head m named before None selfs calls → Stands head m named (File key f ∷ before) None selfs calls
   file_set key f named before selfs calls within is still spells s =
@@ -327,7 +327,7 @@ module _ (head : PartHead) (m : SymbolMap) (sound : IsSound m) (few_functions : 
       let known = function_known true before None selfs calls s f in
       let file : meaning.current_file s.history ≡ (identity_of m f).file =
       s.file (home_of m f) there ∙ sound.home_texts f within in
-      let object : meaning.current_object s.history ≡ cleaned head.object = s.object refl in
+      let object : meaning.current_object s.history ≡ clean_name head.object = s.object refl in
       record {
         history = l ∷ s.history;
         clear = (s.clear, spells.clear);
@@ -432,7 +432,7 @@ module _ (head : PartHead) (m : SymbolMap) (sound : IsSound m) (few_functions : 
       let spells_3 = spells_costs m (Calls count entry ∷ Callee callee ∷ before) at cost costs at_fits in
       let names : List (List ℕ) = events_shown head.branch event_names in
       let known = function_known named before given selfs calls s callee in
-      let object : meaning.current_object s.history ≡ cleaned head.object =
+      let object : meaning.current_object s.history ≡ clean_name head.object =
       s.object (s.written (s.begun f in_function)) in
       let callee_at : unwrap_or (meaning.callee_file s.history) (meaning.current_file s.history)
       ≡ (identity_of m callee).file =

@@ -8,7 +8,7 @@ use Rattle.std.proofs.lemmas.List.{get_or-append_right, length-append, take_all}
 use Rattle.std.proofs.lemmas.List.Folds.{list_all-append}
 use Rattle.std.proofs.lemmas.List.Sums.{suffix_len_is}
 use Rattle.byte_text.specs.Names.{is_printable}
-use Rattle.cg_lines.specs.Lines.{is_blank, stripped, trimmed}
+use Rattle.cg_lines.specs.Lines.{is_blank, strip, trim}
 use Rattle.std.proofs.lemmas.Bool.{and_from}
 
 -- a character that is seen
@@ -64,14 +64,14 @@ no_blank_front : (b : ℕ) (bs : List ℕ) → is_blank b ≡ false → prefix_l
 no_blank_front b bs first = ap (λ c. cond c (1 + prefix_len is_blank bs) 0) first
 
 -- a text that begins with no blank stays as it is
-pub trimmed_kept : (b : ℕ) (bs : List ℕ) → is_blank b ≡ false → IsText (b ∷ bs) → trimmed (b ∷ bs) ≡ b ∷ bs
+pub trimmed_kept : (b : ℕ) (bs : List ℕ) → is_blank b ≡ false → IsText (b ∷ bs) → trim (b ∷ bs) ≡ b ∷ bs
 trimmed_kept b bs first t =
     ap (λ n. end_trimmed (drop n (b ∷ bs))) (no_blank_front b bs first) ∙ end_kept (b ∷ bs) t
 
-pub stripped_kept : (b : ℕ) (bs : List ℕ) → is_blank b ≡ false → IsText (b ∷ bs) → stripped (b ∷ bs) ≡ b ∷ bs
-stripped_kept b bs first t = ap trimmed (no_return (b ∷ bs) t) ∙ trimmed_kept b bs first t
+pub stripped_kept : (b : ℕ) (bs : List ℕ) → is_blank b ≡ false → IsText (b ∷ bs) → strip (b ∷ bs) ≡ b ∷ bs
+stripped_kept b bs first t = ap trim (no_return (b ∷ bs) t) ∙ trimmed_kept b bs first t
 
 -- a space before it is dropped
-pub trimmed_space : (b : ℕ) (bs : List ℕ) → is_blank b ≡ false → IsText (b ∷ bs) → trimmed (32 ∷ b ∷ bs) ≡ b ∷ bs
+pub trimmed_space : (b : ℕ) (bs : List ℕ) → is_blank b ≡ false → IsText (b ∷ bs) → trim (32 ∷ b ∷ bs) ≡ b ∷ bs
 trimmed_space b bs first t =
     ap (λ n. end_trimmed (drop (1 + n) (32 ∷ b ∷ bs))) (no_blank_front b bs first) ∙ end_kept (b ∷ bs) t

@@ -11,10 +11,10 @@ use Rattle.event_costs.specs.Keys.{ArcKey, Place}
 use Rattle.sym_map.specs.SymbolMap.{SymbolMap, IsFile, IsFunc, IsSound, place_of}
 use Rattle.sym_map.proofs.Members.{Contains-cons, Contains-first}
 use Rattle.shadow_stack.specs.declared.frame.Kind.{Kind}
-use Rattle.shadow_stack.specs.Changes.{arc_from, change, entered, next_func}
+use Rattle.shadow_stack.specs.Changes.{arc_from, change, new_activation, next_func}
 use Rattle.shadow_stack.specs.Kinds.{is_root}
 use Rattle.shadow_stack.specs.Stacks.{Activation, Stack}
-use Rattle.shadow_stack.specs.Traces.{Counted, Seen, seen}
+use Rattle.shadow_stack.specs.Traces.{CountedEvent, EventOnStack, events_on_stacks}
 use Rattle.shadow_stack.proofs.ChangeLemmas.{change-end}
 use Rattle.arc_costs.specs.Arcs.{is_some_arc}
 use Rattle.arc_costs.specs.Contents.{Listed}
@@ -74,7 +74,7 @@ record IsKnownKey (m : SymbolMap) (key : ArcKey) : Type 0 where
   callee : IsFunc m key.callee
   line : key.line < 2 ^ 32
 
-module _ (m : SymbolMap) (sound : IsSound m) (trace : List Counted) where
+module _ (m : SymbolMap) (sound : IsSound m) (trace : List CountedEvent) where
   -- a frame that an event of the trace pushes was entered by an arc of the map
   entered_known : (e : Event) (kept : Stack) (key : ArcKey) → All (λ
       (a : Activation). a.func.0 < length m.functions) kept
@@ -100,52 +100,52 @@ module _ (m : SymbolMap) (sound : IsSound m) (trace : List Counted) where
   known_end [] kept known = known
   known_end (a ∷ front) kept known = known_end front kept (λ k d lt. known (suc k) d (omega arith))
 
-  pushed_known : (key : ArcKey) → IsPushed m key (seen m trace) → IsKnownKey m key
+  pushed_known : (key : ArcKey) → IsPushed m key (events_on_stacks m trace) → IsKnownKey m key
   pushed_known key p = go (change-entered m p.event.event p.event.stack)
     where
       stack_known : All (λ (a : Activation). a.func.0 < length m.functions) p.event.stack
       stack_known =
-          All-contains (λ (x : Seen). All (λ (a : Activation). a.func.0 < length m.functions) x.stack) (seen m trace)
+          All-contains (λ (x : EventOnStack). All (λ (a : Activation). a.func.0 < length m.functions) x.stack) (events_on_stacks m trace)
           p.event
           (stacks_of_map m trace
           (λ k d lt. (
             sound.place_functions (get_or trace k d).event.done.pc,
             sound.place_functions (get_or trace k d).event.done.next,
-          ))) (in_seen (seen m trace) p.event p.inside)
+          ))) (in_seen (events_on_stacks m trace) p.event p.inside)
 
       kept_known : All (λ (a : Activation). a.func.0 < length m.functions)
-          (change m p.event.event p.event.stack).kept
+          (change m p.event.event p.event.stack).rest
       kept_known =
           let ends = change-end m p.event.event p.event.stack in
-          known_end ends.front (change m p.event.event p.event.stack).kept
+          known_end ends.front (change m p.event.event p.event.stack).rest
           (subst (λ (s : Stack). All (λ (a : Activation). a.func.0 < length m.functions) s) ends.whole stack_known)
 
       go : ((change m p.event.event p.event.stack).pushed ≡ None)
           ⊎ ((kind : Kind) × (is_root kind ≡ false)
           × ((change m p.event.event p.event.stack).pushed
-          ≡ Some (entered m p.event.event kind (change m p.event.event p.event.stack).kept)))
+          ≡ Some (new_activation m p.event.event kind (change m p.event.event p.event.stack).rest)))
           → IsKnownKey m key
       go (inl none) = let some = p.pushed in absurd (cc)
       go (inr found) =
-          let some : Some p.frame ≡ Some (entered m p.event.event found.0 (change m p.event.event p.event.stack).kept)
+          let some : Some p.frame ≡ Some (new_activation m p.event.event found.0 (change m p.event.event p.event.stack).rest)
           = sym p.pushed ∙ found.2 in
-          let same : p.frame ≡ entered m p.event.event found.0 (change m p.event.event p.event.stack).kept = cc in
-          entered_known p.event.event (change m p.event.event p.event.stack).kept key kept_known
+          let same : p.frame ≡ new_activation m p.event.event found.0 (change m p.event.event p.event.stack).rest = cc in
+          entered_known p.event.event (change m p.event.event p.event.stack).rest key kept_known
           (ap (λ (a : Activation). is_arc key a.arc) (sym same) ∙ p.entered)
 
-  module _ (xs : List Seen) (rows : Listed) (within : All (Contains (seen m trace)) xs) (run : IsRunSized xs)
+  module _ (xs : List EventOnStack) (rows : Listed) (within : All (Contains (events_on_stacks m trace)) xs) (run : IsRunSized xs)
       (is : AreRowsOf m xs rows) (whole : AreWhole rows) where
     -- the events of a thread have what one of them has
-    found_in_thread : (f : Seen → ℕ) → 0 < sum_by f xs → (x : Seen) × Contains xs x × (0 < sum_by f
-        (of_thread x.event.thread (seen m trace)))
+    found_in_thread : (f : EventOnStack → ℕ) → 0 < sum_by f xs → (x : EventOnStack) × Contains xs x × (0 < sum_by f
+        (of_thread x.event.thread (events_on_stacks m trace)))
     found_in_thread f some =
         let found = sum-some f xs some in
-        let x : Seen = found.item in
-        let there : Contains (seen m trace) x = All-contains (Contains (seen m trace)) xs x within found.among in
-        let own : Contains (of_thread x.event.thread (seen m trace)) x =
-        Contains-filter (λ (y : Seen). y.event.thread.0 == x.event.thread.0) (seen m trace) x there
+        let x : EventOnStack = found.item in
+        let there : Contains (events_on_stacks m trace) x = All-contains (Contains (events_on_stacks m trace)) xs x within found.among in
+        let own : Contains (of_thread x.event.thread (events_on_stacks m trace)) x =
+        Contains-filter (λ (y : EventOnStack). y.event.thread.0 == x.event.thread.0) (events_on_stacks m trace) x there
         (eq-eqb x.event.thread.0 x.event.thread.0 refl) in
-        let share = le-sum f (of_thread x.event.thread (seen m trace)) x own in
+        let share = le-sum f (of_thread x.event.thread (events_on_stacks m trace)) x own in
         let more = found.has in
         (x, found.among, omega (arith, share, more))
 
@@ -167,7 +167,7 @@ module _ (m : SymbolMap) (sound : IsSound m) (trace : List Counted) where
         let number = some_number row.cost passes in
         let share = line_share row number.0 there in
         let above = number.1 in
-        let found = sum-some (λ (x : Seen).
+        let found = sum-some (λ (x : EventOnStack).
         if same_place row.place (place_of m x.event.done.pc) then get_or x.cost number.0 0 else 0) xs
         (omega (arith, share, above)) in (
           found.item.event.done.pc,
@@ -216,15 +216,15 @@ module _ (m : SymbolMap) (sound : IsSound m) (trace : List Counted) where
 
     called_known : (key : ArcKey) → 0 < arc_calls m key xs → IsKnownKey m key
     called_known key some =
-        let found = found_in_thread (λ (x : Seen). pushes key (change m x.event x.stack).pushed) some in
-        pushed_known key (arc_pushed m trace [] (seen m trace) found.0.event.thread key 0 (inl refl)
-        (inl (not_zero (arc_calls m key (of_thread found.0.event.thread (seen m trace))) found.2)))
+        let found = found_in_thread (λ (x : EventOnStack). pushes key (change m x.event x.stack).pushed) some in
+        pushed_known key (arc_pushed m trace [] (events_on_stacks m trace) found.0.event.thread key 0 (inl refl)
+        (inl (not_zero (arc_calls m key (of_thread found.0.event.thread (events_on_stacks m trace))) found.2)))
 
     costing_known : (key : ArcKey) (kind : ℕ) → 0 < arc_cost kind key xs → IsKnownKey m key
     costing_known key kind some =
-        let found = found_in_thread (λ (x : Seen). get_or x.cost kind 0 * entered_by key x.stack) some in
-        pushed_known key (arc_pushed m trace [] (seen m trace) found.0.event.thread key kind (inl refl)
-        (inr (not_zero (arc_cost kind key (of_thread found.0.event.thread (seen m trace))) found.2)))
+        let found = found_in_thread (λ (x : EventOnStack). get_or x.cost kind 0 * entered_by key x.stack) some in
+        pushed_known key (arc_pushed m trace [] (events_on_stacks m trace) found.0.event.thread key kind (inl refl)
+        (inr (not_zero (arc_cost kind key (of_thread found.0.event.thread (events_on_stacks m trace))) found.2)))
 
     arc_known : (row : ArcRow) → Contains rows.arcs row → IsKnownKey m row.arc
     arc_known row there =
@@ -260,7 +260,7 @@ module _ (m : SymbolMap) (sound : IsSound m) (trace : List Counted) where
 
     pub writable_rows : AreWritable m rows
     writable_rows = record {
-      known = record {
+      of_map = record {
         lines = λ k d lt. line_known (get_or rows.lines k d) (Contains-get_or rows.lines k d lt);
         arcs = λ k d lt.
             let known = arc_known (get_or rows.arcs k d) (Contains-get_or rows.arcs k d lt) in

@@ -2,7 +2,7 @@
 use Rattle.std.specs.Prelude.{◌≡◌, ℕ, ◌<◌, ◌^◌, List, All, map, Option, Some}
 use Rattle.std.specs.List.Sorted.{IsStrictlySortedBy}
 use Rattle.event_costs.specs.Costs.{IsWhole, event_names, events_shown}
-use Rattle.byte_text.specs.Names.{cleaned}
+use Rattle.byte_text.specs.Names.{clean_name}
 use Rattle.event_costs.specs.declared.numbers.FuncId.{FuncId}
 use Rattle.arc_costs.specs.Arcs.{arc_of}
 use Rattle.arc_costs.specs.Contents.{Listed}
@@ -31,7 +31,7 @@ pub record FitsArc (row : ArcRow) : Type 0 where
   pub cost : All (λ n. n < 2 ^ 64) row.cost
 
 pub record AreWritable (m : SymbolMap) (rows : Listed) : Type 0 where
-  pub known : AreKnown m rows
+  pub of_map : AreKnown m rows
   pub lines_fit : All FitsLine rows.lines
   pub arcs_fit : All FitsArc rows.arcs
   pub lines_rise : IsStrictlySortedBy place_order (map place_of rows.lines)
@@ -40,7 +40,7 @@ pub record AreWritable (m : SymbolMap) (rows : Listed) : Type 0 where
 -- a function of a map, by texts: the object of the part, and what makes the function
 abbrev pub key_of : PartHead → SymbolMap → FuncId → FuncKey
 key_of head m func = record {
-  object = cleaned head.object;
+  object = clean_name head.object;
   file = (identity_of m func).file;
   name = (identity_of m func).name;
 }
@@ -75,4 +75,4 @@ pub record IsOfRows (head : PartHead) (command : Option (List ℕ)) (rows : List
 
 -- the command that a part gives
 abbrev pub command_of : PartHead → Option (List ℕ)
-command_of head = Some (cleaned head.cmd)
+command_of head = Some (clean_name head.cmd)

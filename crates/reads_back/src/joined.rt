@@ -12,7 +12,7 @@ ghost use Rattle.profile_files.specs.Joined as files;
 ghost use Rattle.profile_files.specs.Joined.{Joins};
 ghost use Rattle.outside.specs.Load.{Load};
 ghost use Rattle.profile_files.specs.Reading.{reading_fault};
-ghost use Rattle.profile_files.specs.Wanted.{Wanted};
+ghost use Rattle.profile_files.specs.WantedFile.{WantedFile};
 ghost use Rattle.reads_back.specs.Joined.{AreOfOneRun, ArePartsOfRun, AreWhole, WrittenPart, events_in, first_command};
 ghost use Rattle.reads_back.specs.Joined.{no_rows, no_rows_of, rows_of_all, texts_of, together};
 ghost use Rattle.reads_back.specs.Rows.{AreWritable, IsOfRows, command_of};
@@ -40,10 +40,10 @@ pub fn joined_parts_have_all_rows()
 
 /// Files with the texts of a run's parts are read without a fault: none has a bad line or other events.
 pub fn parts_are_never_refused()
-    ensures all { (head : PartHead) (m : SymbolMap) (parts : List WrittenPart) (files : List Wanted) → IsSound m
+    ensures all { (head : PartHead) (m : SymbolMap) (parts : List WrittenPart) (files : List WantedFile) → IsSound m
         → ArePartsOfRun head m parts → length files ≡ length parts
         → reading_fault (events_in head) files (map {B = Load} (λ text. Ok text) (texts_of m parts)) ≡ None }
-    ensures unnamed { (head : PartHead) (m : SymbolMap) (parts : List WrittenPart) (files : List Wanted) → IsSound m
+    ensures unnamed { (head : PartHead) (m : SymbolMap) (parts : List WrittenPart) (files : List WantedFile) → IsSound m
         → ArePartsOfRun head m parts → length files ≡ length parts
         → reading_fault [] files (map {B = Load} (λ text. Ok text) (texts_of m parts)) ≡ None }
 {}

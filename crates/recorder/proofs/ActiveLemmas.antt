@@ -10,7 +10,7 @@ use Rattle.std.specs.Int.{bit_at, bit_not, w64}
 use Rattle.std.specs.Int.Bits.{bit_and, bit_or}
 use Rattle.std.specs.Prelude.{Result, Ok, Err, OnOk, OnErr, is_ok}
 use Rattle.event_costs.specs.declared.numbers.ThreadNo.{ThreadNo}
-use Rattle.recorder.specs.Accounts.{account, kept, Kept, Recording}
+use Rattle.recorder.specs.Accounts.{account, ledger, Ledger, Recording}
 use Rattle.recorder.specs.inner.Active.{AreMarked, IsMarkedReady, may_have, word_of}
 use Rattle.recorder.specs.declared.recorder.ReadyThread.{ReadyThread}
 use Rattle.recorder.proofs.LineLemmas.{true_false}
@@ -131,9 +131,9 @@ module _ (r s : Recording) (old new : List ℕ) (are : AreMarked r old) where
       → ((o : ThreadNo) → (account s o).had_event ≡ true → (account r o).had_event ≡ true) → AreMarked s new
   marks_stay more fewer o had = more o (are o (fewer o had))
 
-  module _ (t : ThreadNo) (others : (o : ThreadNo) → o.0 ≢ t.0 → kept s o ≡ kept r o) where
+  module _ (t : ThreadNo) (others : (o : ThreadNo) → o.0 ≢ t.0 → ledger s o ≡ ledger r o) where
     had_before : (o : ThreadNo) → o.0 ≢ t.0 → (account s o).had_event ≡ true → (account r o).had_event ≡ true
-    had_before o differs had = sym (ap (λ (k : Kept). k.account.had_event) (others o differs)) ∙ had
+    had_before o differs had = sym (ap (λ (k : Ledger). k.account.had_event) (others o differs)) ∙ had
 
     -- a thread has an event, and has a mark
     pub marked_after : ((o : ThreadNo) → may_have old o ≡ true → may_have new o ≡ true) → may_have new t ≡ true

@@ -5,7 +5,7 @@ use Rattle.event_costs.specs.Costs.{IsWhole, event_kinds}
 use Rattle.arc_costs.specs.Contents.{Listed}
 use Rattle.arc_costs.specs.Rows.{ArcRow, LineRow}
 use Rattle.sym_map.specs.SymbolMap.{SymbolMap}
-use Rattle.shadow_stack.specs.Traces.{Seen}
+use Rattle.shadow_stack.specs.Traces.{EventOnStack}
 use Rattle.recorder.specs.Laws.{IsIn}
 use Rattle.recorder.specs.Standing.{AreRowsOf}
 use Rattle.recorder.specs.Rows.{rows_of}
@@ -18,7 +18,7 @@ pub record AreWhole (listed : Listed) : Type 0 where
   pub lines : (r : LineRow) → IsIn listed.lines r → length r.cost ≡ event_kinds
   pub arcs : (r : ArcRow) → IsIn listed.arcs r → length r.cost ≡ event_kinds
 
-pub rows_are : (syms : SymbolMap) (xs : List Seen) (listed : Listed) → AreRowsOf syms xs listed → AreWhole listed
+pub rows_are : (syms : SymbolMap) (xs : List EventOnStack) (listed : Listed) → AreRowsOf syms xs listed → AreWhole listed
     → listed ≡ rows_of syms xs
 unfolding rows_of
 rows_are syms xs listed are whole = λ i. record {

@@ -12,7 +12,7 @@ use Rattle.event_costs.specs.declared.numbers.ThreadNo.{ThreadNo}
 use Rattle.sym_map.specs.SymbolMap.{SymbolMap}
 use Rattle.shadow_stack.specs.Changes.{after, change, with_pushed}
 use Rattle.shadow_stack.specs.Stacks.{Activation, root, Stack}
-use Rattle.shadow_stack.specs.Traces.{Counted, first_pc, is_by, own, Seen, seen, seen_after, seen_from, stack_after}
+use Rattle.shadow_stack.specs.Traces.{CountedEvent, first_pc, is_by, events_by, EventOnStack, events_on_stacks, event_on_stack_after, events_on_stacks_from, stack_after}
 use Rattle.shadow_stack.specs.Traces.{stack_of}
 use Rattle.shadow_stack.proofs.ChangeLemmas.{change-end, IsEnd}
 use Rattle.recorder.specs.Laws.{IsIn, IsPushed, pieces}
@@ -55,7 +55,7 @@ frame_found key cost s some =
     (found.0, found.1, true_if (is_arc key found.0.arc) found.2)
 
 -- what is pushed later was pushed
-pushed_more : (syms : SymbolMap) (key : ArcKey) (xs ys : List Seen) → IsPushed syms key xs
+pushed_more : (syms : SymbolMap) (key : ArcKey) (xs ys : List EventOnStack) → IsPushed syms key xs
     → IsPushed syms key (xs ++ ys)
 pushed_more syms key xs ys p = record {
   event = p.event;
@@ -66,9 +66,9 @@ pushed_more syms key xs ys p = record {
 }
 
 -- every frame of a thread's stack that was entered by an arc was pushed by one of these events
-abbrev AllPushed : SymbolMap → List Counted → List Seen → Type 0
+abbrev AllPushed : SymbolMap → List CountedEvent → List EventOnStack → Type 0
 AllPushed syms earlier done =
-    (t : ThreadNo) (pc : ℕ) (key : ArcKey) (a : Activation) → IsIn (stack_of syms (own t earlier) pc) a
+    (t : ThreadNo) (pc : ℕ) (key : ArcKey) (a : Activation) → IsIn (stack_of syms (events_by t earlier) pc) a
     → is_arc key a.arc ≡ true → IsPushed syms key done
 
 no_arc : (key : ArcKey) (r a : Activation) → r ≡ a → r.arc ≡ None → is_arc key a.arc ≡ true → ⊥
@@ -96,43 +96,43 @@ in_after : (syms : SymbolMap) (s : Stack) (e : Event) (a : Activation) → IsIn 
     → ((change syms e s).pushed ≡ Some a) ⊎ IsIn s a
 in_after syms s e a inside = by (change syms e s).pushed refl inside
   where
-    ends : IsEnd (change syms e s).kept s
+    ends : IsEnd (change syms e s).rest s
     ends = change-end syms e s
 
-    kept_in_s : IsIn (change syms e s).kept a → IsIn s a
+    kept_in_s : IsIn (change syms e s).rest a → IsIn s a
     kept_in_s here =
-        subst (λ (t : Stack). IsIn t a) (sym ends.whole) (in_right ends.front (change syms e s).kept a here)
+        subst (λ (t : Stack). IsIn t a) (sym ends.whole) (in_right ends.front (change syms e s).rest a here)
 
-    by : (p : Option Activation) → (change syms e s).pushed ≡ p → IsIn (with_pushed p (change syms e s).kept) a
+    by : (p : Option Activation) → (change syms e s).pushed ≡ p → IsIn (with_pushed p (change syms e s).rest) a
         → ((change syms e s).pushed ≡ Some a) ⊎ IsIn s a
     by None is here = inr (kept_in_s here)
     by (Some b) is (inl same) = inl (is ∙ ap (λ (x : Activation). Some x) same)
     by (Some b) is (inr here) = inr (kept_in_s here)
 
-own_more : (t : ThreadNo) (earlier : List Counted) (x : Counted) (b : Bool) → is_by t x ≡ b
-    → own t (earlier ++ x ∷ []) ≡ own t earlier ++ map (λ y. y.event) (cond b (x ∷ []) [])
+own_more : (t : ThreadNo) (earlier : List CountedEvent) (x : CountedEvent) (b : Bool) → is_by t x ≡ b
+    → events_by t (earlier ++ x ∷ []) ≡ events_by t earlier ++ map (λ y. y.event) (cond b (x ∷ []) [])
 own_more t earlier x b is =
-    ap (map (λ (y : Counted). y.event))
+    ap (map (λ (y : CountedEvent). y.event))
     (filter-append (is_by t) earlier (x ∷ []) ∙ ap (λ c. filter (is_by t) earlier ++ cond c (x ∷ []) []) is)
-    ∙ map-append (λ (y : Counted). y.event) (filter (is_by t) earlier) (cond b (x ∷ []) [])
+    ∙ map-append (λ (y : CountedEvent). y.event) (filter (is_by t) earlier) (cond b (x ∷ []) [])
 
-pushed_step : (syms : SymbolMap) (earlier : List Counted) (done : List Seen) (x : Counted) → AllPushed syms earlier done
-    → AllPushed syms (earlier ++ x ∷ []) (done ++ seen_after syms earlier x ∷ [])
+pushed_step : (syms : SymbolMap) (earlier : List CountedEvent) (done : List EventOnStack) (x : CountedEvent) → AllPushed syms earlier done
+    → AllPushed syms (earlier ++ x ∷ []) (done ++ event_on_stack_after syms earlier x ∷ [])
 pushed_step syms earlier done x all t pc key a inside entered = by (is_by t x) refl
   where
-    new : List Seen
-    new = seen_after syms earlier x ∷ []
+    new : List EventOnStack
+    new = event_on_stack_after syms earlier x ∷ []
 
     mine : is_by t x ≡ true → x.event.thread ≡ t
     mine is = same_thread x.event.thread t (grind (arith, nat_tests))
 
-    here : is_by t x ≡ true → ((change syms x.event (stack_of syms (own t earlier) x.event.done.pc)).pushed ≡ Some a)
-        ⊎ IsIn (stack_of syms (own t earlier) x.event.done.pc) a → IsPushed syms key (done ++ new)
+    here : is_by t x ≡ true → ((change syms x.event (stack_of syms (events_by t earlier) x.event.done.pc)).pushed ≡ Some a)
+        ⊎ IsIn (stack_of syms (events_by t earlier) x.event.done.pc) a → IsPushed syms key (done ++ new)
     here is (inl pushed) = record {
-      event = seen_after syms earlier x;
-      inside = in_right done new (seen_after syms earlier x) (inl refl);
+      event = event_on_stack_after syms earlier x;
+      inside = in_right done new (event_on_stack_after syms earlier x) (inl refl);
       frame = a;
-      pushed = ap (λ (u : ThreadNo). (change syms x.event (stack_of syms (own u earlier) x.event.done.pc)).pushed)
+      pushed = ap (λ (u : ThreadNo). (change syms x.event (stack_of syms (events_by u earlier) x.event.done.pc)).pushed)
           (mine is) ∙ pushed;
       entered = entered;
     }
@@ -140,52 +140,52 @@ pushed_step syms earlier done x all t pc key a inside entered = by (is_by t x) r
 
     by : (b : Bool) → is_by t x ≡ b → IsPushed syms key (done ++ new)
     by true is =
-        here is (in_after syms (stack_of syms (own t earlier) x.event.done.pc) x.event a
+        here is (in_after syms (stack_of syms (events_by t earlier) x.event.done.pc) x.event a
         (subst (λ (s : Stack). IsIn s a) (ap (λ (es : List Event). stack_of syms es pc) (own_more t earlier x true is)
-        ∙ stack_more syms (own t earlier) x.event pc) inside))
+        ∙ stack_more syms (events_by t earlier) x.event pc) inside))
     by false is =
         pushed_more syms key done new (all t pc key a
         (subst (λ (s : Stack). IsIn s a)
         (ap (λ (es : List Event). stack_of syms es pc)
-        (own_more t earlier x false is ∙ append-nil (own t earlier))) inside) entered)
+        (own_more t earlier x false is ∙ append-nil (events_by t earlier))) inside) entered)
 
-pushed_from : (syms : SymbolMap) (earlier xs : List Counted) (done : List Seen) → AllPushed syms earlier done
-    → (x : Seen) → IsIn (seen_from syms earlier xs) x
+pushed_from : (syms : SymbolMap) (earlier xs : List CountedEvent) (done : List EventOnStack) → AllPushed syms earlier done
+    → (x : EventOnStack) → IsIn (events_on_stacks_from syms earlier xs) x
     → (key : ArcKey) (a : Activation) → IsIn x.stack a → is_arc key a.arc ≡ true
-    → IsPushed syms key (done ++ seen_from syms earlier xs)
+    → IsPushed syms key (done ++ events_on_stacks_from syms earlier xs)
 pushed_from syms earlier [] done all x none key a inside entered = absurd none
 pushed_from syms earlier (y ∷ xs) done all x (inl is) key a inside entered =
-    pushed_more syms key done (seen_from syms earlier (y ∷ xs))
-    (all y.event.thread y.event.done.pc key a (subst (λ (z : Seen). IsIn z.stack a) (sym is) inside) entered)
+    pushed_more syms key done (events_on_stacks_from syms earlier (y ∷ xs))
+    (all y.event.thread y.event.done.pc key a (subst (λ (z : EventOnStack). IsIn z.stack a) (sym is) inside) entered)
 pushed_from syms earlier (y ∷ xs) done all x (inr later) key a inside entered =
-    subst (λ (zs : List Seen). IsPushed syms key zs)
-    (append_assoc done (seen_after syms earlier y ∷ []) (seen_from syms (earlier ++ y ∷ []) xs))
-    (pushed_from syms (earlier ++ y ∷ []) xs (done ++ seen_after syms earlier y ∷ [])
+    subst (λ (zs : List EventOnStack). IsPushed syms key zs)
+    (append_assoc done (event_on_stack_after syms earlier y ∷ []) (events_on_stacks_from syms (earlier ++ y ∷ []) xs))
+    (pushed_from syms (earlier ++ y ∷ []) xs (done ++ event_on_stack_after syms earlier y ∷ [])
     (pushed_step syms earlier done y all) x later key a inside entered)
 
 -- an arc with a call or a cost in a segment, of a thread, was pushed by an event of the trace
-pub arc_pushed : (syms : SymbolMap) (trace : List Counted) (cuts : List ℕ) (segment : List Seen) (thread : ThreadNo)
-    (key : ArcKey) (kind : ℕ) → IsIn (pieces cuts (seen syms trace)) segment
+pub arc_pushed : (syms : SymbolMap) (trace : List CountedEvent) (cuts : List ℕ) (segment : List EventOnStack) (thread : ThreadNo)
+    (key : ArcKey) (kind : ℕ) → IsIn (pieces cuts (events_on_stacks syms trace)) segment
     → (arc_calls syms key (of_thread thread segment) ≢ 0) ⊎ (arc_cost kind key (of_thread thread segment) ≢ 0)
-    → IsPushed syms key (seen syms trace)
+    → IsPushed syms key (events_on_stacks syms trace)
 arc_pushed syms trace cuts segment thread key kind piece (inl called) =
-    let found = some_number (λ (x : Seen). pushes key (change syms x.event x.stack).pushed)
+    let found = some_number (λ (x : EventOnStack). pushes key (change syms x.event x.stack).pushed)
     (of_thread thread segment) called in
     let push = push_found key (change syms found.0.event found.0.stack).pushed found.2 in
     record {
       event = found.0;
       inside =
-          in_piece cuts (seen syms trace) segment found.0 piece
-          (in_filter (λ (x : Seen). x.event.thread.0 == thread.0) segment found.0 found.1).0;
+          in_piece cuts (events_on_stacks syms trace) segment found.0 piece
+          (in_filter (λ (x : EventOnStack). x.event.thread.0 == thread.0) segment found.0 found.1).0;
       frame = push.0;
       pushed = push.1;
       entered = push.2;
     }
 arc_pushed syms trace cuts segment thread key kind piece (inr costs) =
-    let found = some_number (λ (x : Seen). get_or x.cost kind 0 * entered_by key x.stack)
+    let found = some_number (λ (x : EventOnStack). get_or x.cost kind 0 * entered_by key x.stack)
     (of_thread thread segment) costs in
     let frame = frame_found key (get_or found.0.cost kind 0) found.0.stack found.2 in
     pushed_from syms [] trace [] (none_pushed syms) found.0
-    (in_piece cuts (seen syms trace) segment found.0 piece
-    (in_filter (λ (x : Seen). x.event.thread.0 == thread.0) segment found.0 found.1).0)
+    (in_piece cuts (events_on_stacks syms trace) segment found.0 piece
+    (in_filter (λ (x : EventOnStack). x.event.thread.0 == thread.0) segment found.0 found.1).0)
     key frame.0 frame.1 frame.2

@@ -25,7 +25,7 @@ use Rattle.arc_costs.proofs.RiseLemmas as rise
 use Rattle.sym_map.specs.SymbolMap.{SymbolMap}
 use Rattle.shadow_stack.specs.Changes.{change}
 use Rattle.shadow_stack.specs.Stacks.{Activation, Stack}
-use Rattle.shadow_stack.specs.Traces.{Seen}
+use Rattle.shadow_stack.specs.Traces.{EventOnStack}
 use Rattle.recorder.specs.Laws.{IsIn}
 use Rattle.recorder.specs.Standing.{AreRowsOf}
 use Rattle.recorder.specs.Sums.{arc_calls, arc_cost, entered_by, is_arc, pushes}
@@ -127,7 +127,7 @@ either calls cost some = by (eqb_tells calls 0)
     by (inr there) = inl there.1
 
 -- an arc with calls or a cost is one of the events' arcs
-module _ (syms : SymbolMap) (xs : List Seen) where
+module _ (syms : SymbolMap) (xs : List EventOnStack) where
   pub called : (k : ArcKey) → arc_calls syms k xs ≢ 0 → IsIn (arcs syms xs) k
   called k some =
       let event = some_number (λ x. pushes k (change syms x.event x.stack).pushed) xs some in
@@ -146,7 +146,7 @@ module _ (syms : SymbolMap) (xs : List Seen) where
       (in_left (arcs_of x.stack) (arcs_of (option_to_list (change syms x.event x.stack).pushed)) k
       (of_stack k x.stack (no_product (get_or x.cost kind 0) (entered_by k x.stack) event.2))))
 
-module _ (syms : SymbolMap) (xs : List Seen) (listed : Listed) (are : AreRowsOf syms xs listed)
+module _ (syms : SymbolMap) (xs : List EventOnStack) (listed : Listed) (are : AreRowsOf syms xs listed)
     (whole : (r : ArcRow) → IsIn listed.arcs r → length r.cost ≡ event_kinds) where
   abbrev key : ArcRow → ArcKey
   key r = arc.arc_of r

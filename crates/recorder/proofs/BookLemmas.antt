@@ -26,23 +26,23 @@ use Rattle.arc_costs.specs.Rows.{ArcRow, LineRow}
 use Rattle.arc_costs.proofs.ArcLemmas.{arc_keys_more, cleared_keys, none_stand, same_arc_laws}
 use Rattle.arc_costs.proofs.RowLemmas.{sum_at-append, sum_at_one}
 use Rattle.shadow_stack.specs.Stacks.{Activation, top_of}
-use Rattle.shadow_stack.specs.Changes.{gone}
-use Rattle.shadow_stack.specs.Frames.{closing, closings, count_pushed, dropped, frames_after, kept, pushed, pushing}
-use Rattle.shadow_stack.specs.Frames.{restarted, stack, StartWithin, tellings, with_frame}
+use Rattle.shadow_stack.specs.Changes.{drop_count}
+use Rattle.shadow_stack.specs.Frames.{closing, closings, count_pushed, dropped_frames, frames_after, kept_frames, pushed_activation, pushing}
+use Rattle.shadow_stack.specs.Frames.{restarted_frames, stack, StartWithin, tellings, with_frame}
 use Rattle.shadow_stack.specs.declared.frame.Frame.{Frame}
 use Rattle.shadow_stack.specs.declared.frame.Kind.TheVariants.{Root}
 use Rattle.event_costs.specs.declared.numbers.ThreadNo.{ThreadNo}
 use Rattle.shadow_stack.proofs.FrameLemmas.{covers_itself, StartWithin-grown, StartWithin-restarted}
 use Rattle.recorder.specs.Accounts.{Account}
-use Rattle.recorder.specs.Notes.{cut_off, open_sum, started, told_rows}
+use Rattle.recorder.specs.Notes.{account_after_cut, open_sum, first_account, rows_of_tellings}
 use Rattle.recorder.specs.Sums.{entered_by, pushes}
 use Rattle.recorder.specs.inner.Books.{AreEntered, AreKeyed, IsSound}
-use Rattle.recorder.specs.inner.Tellers.{CanTell, count_pushes, RowsTold}
-use Rattle.recorder.specs.inner.TellerLaws.{count_pushes-append, told_calls-append, told_costs-append, told_rows-append}
+use Rattle.recorder.specs.inner.Tellers.{CanTell, count_pushes, RowsAfterTellings}
+use Rattle.recorder.specs.inner.TellerLaws.{count_pushes-append, telling_calls-append, telling_costs-append, rows_of_tellings-append}
 use Rattle.recorder.proofs.SumLemmas.{AreKeyed-drop, AreKeyed-take, closings_calls, closings_costs, closings_keyed}
 use Rattle.recorder.proofs.SumLemmas.{closings_pushes, count_pushed_most, open_sum-grown, open_sum-restarted}
 use Rattle.recorder.proofs.SumLemmas.{open_sum-split, open_sum-with, pushing_calls, pushing_costs, pushing_pushes}
-use Rattle.recorder.proofs.SumLemmas.{told_keyed}
+use Rattle.recorder.proofs.SumLemmas.{tellings_keyed}
 use Rattle.std.proofs.lemmas.Bool.{or_left, or_right}
 
 All-cons : {X : Type 0} (P : X → Type 0) (x : X) (xs : List X) → P x → All P xs → All P (x ∷ xs)
@@ -77,66 +77,66 @@ starts_grown total cost fs whole one all =
     StartWithin-grown (sum_of_costs total cost) total fs (covered total cost (whole ∙ sym one)) all
 
 -- what an event tells
-told_event_costs : (syms : SymbolMap) (total : List ℕ) (e : Event) (fs : List Frame) (kind : ℕ) (arc : ArcKey)
+tellings_costs : (syms : SymbolMap) (total : List ℕ) (e : Event) (fs : List Frame) (kind : ℕ) (arc : ArcKey)
     → StartWithin total fs
-    → arc_sum kind arc (told_rows (tellings syms total fs e)) ≡ open_sum kind total arc (dropped syms e fs)
-told_event_costs syms total e fs kind arc all =
-    let all_told = told_costs-append kind arc (closings total (dropped syms e fs)) (pushing (pushed syms e fs)) in
+    → arc_sum kind arc (rows_of_tellings (tellings syms total fs e)) ≡ open_sum kind total arc (dropped_frames syms e fs)
+tellings_costs syms total e fs kind arc all =
+    let all_told = telling_costs-append kind arc (closings total (dropped_frames syms e fs)) (pushing (pushed_activation syms e fs)) in
     let closed =
-    closings_costs kind total arc (dropped syms e fs) (StartWithin-take total (gone syms e (stack fs)) fs all) in
-    let opened = pushing_costs kind arc (pushed syms e fs) in
+    closings_costs kind total arc (dropped_frames syms e fs) (StartWithin-take total (drop_count syms e (stack fs)) fs all) in
+    let opened = pushing_costs kind arc (pushed_activation syms e fs) in
     omega (arith, all_told, closed, opened)
 
-told_event_calls : (syms : SymbolMap) (total : List ℕ) (e : Event) (fs : List Frame) (arc : ArcKey)
-    → call_sum arc (told_rows (tellings syms total fs e)) ≡ pushes arc (pushed syms e fs)
-told_event_calls syms total e fs arc =
-    let all_told = told_calls-append arc (closings total (dropped syms e fs)) (pushing (pushed syms e fs)) in
-    let closed = closings_calls total arc (dropped syms e fs) in
-    let opened = pushing_calls arc (pushed syms e fs) in
+tellings_calls : (syms : SymbolMap) (total : List ℕ) (e : Event) (fs : List Frame) (arc : ArcKey)
+    → call_sum arc (rows_of_tellings (tellings syms total fs e)) ≡ pushes arc (pushed_activation syms e fs)
+tellings_calls syms total e fs arc =
+    let all_told = telling_calls-append arc (closings total (dropped_frames syms e fs)) (pushing (pushed_activation syms e fs)) in
+    let closed = closings_calls total arc (dropped_frames syms e fs) in
+    let opened = pushing_calls arc (pushed_activation syms e fs) in
     omega (arith, all_told, closed, opened)
 
-pub told_event_pushes : (syms : SymbolMap) (total : List ℕ) (e : Event) (fs : List Frame)
-    → count_pushes (tellings syms total fs e) ≤ count_pushed (pushed syms e fs)
-told_event_pushes syms total e fs =
-    let all_told = count_pushes-append (closings total (dropped syms e fs)) (pushing (pushed syms e fs)) in
-    let closed = closings_pushes total (dropped syms e fs) in
-    omega (arith, all_told, closed, pushing_pushes (pushed syms e fs))
+pub tellings_pushes : (syms : SymbolMap) (total : List ℕ) (e : Event) (fs : List Frame)
+    → count_pushes (tellings syms total fs e) ≤ count_pushed (pushed_activation syms e fs)
+tellings_pushes syms total e fs =
+    let all_told = count_pushes-append (closings total (dropped_frames syms e fs)) (pushing (pushed_activation syms e fs)) in
+    let closed = closings_pushes total (dropped_frames syms e fs) in
+    omega (arith, all_told, closed, pushing_pushes (pushed_activation syms e fs))
 
 pub can_tell_event : (syms : SymbolMap) (total : List ℕ) (e : Event) (fs : List Frame) (rows : Contents)
     → StartWithin total fs → AreKeyed rows.arcs fs → 1 ≤ rows.arc_room
     → ((kind : ℕ) (arc : ArcKey) → arc_sum kind arc rows.arcs + open_sum kind total arc fs < 2 ^ 64)
-    → ((arc : ArcKey) → call_sum arc rows.arcs + pushes arc (pushed syms e fs) < 2 ^ 64)
+    → ((arc : ArcKey) → call_sum arc rows.arcs + pushes arc (pushed_activation syms e fs) < 2 ^ 64)
     → CanTell rows (tellings syms total fs e)
 can_tell_event syms total e fs rows starts keyed room costs calls = record {
-  room = omega (arith, told_event_pushes syms total e fs, count_pushed_most (pushed syms e fs), room);
+  room = omega (arith, tellings_pushes syms total e fs, count_pushed_most (pushed_activation syms e fs), room);
   keyed =
-      told_keyed rows.arcs total (dropped syms e fs) (pushed syms e fs)
-      (AreKeyed-take rows.arcs (gone syms e (stack fs)) fs keyed);
+      tellings_keyed rows.arcs total (dropped_frames syms e fs) (pushed_activation syms e fs)
+      (AreKeyed-take rows.arcs (drop_count syms e (stack fs)) fs keyed);
   costs = λ kind arc.
-      let parts = open_sum-split kind total arc (gone syms e (stack fs)) fs in
-      omega (arith, told_event_costs syms total e fs kind arc starts, parts, costs kind arc);
-  calls = λ arc. omega (arith, told_event_calls syms total e fs arc, calls arc);
+      let parts = open_sum-split kind total arc (drop_count syms e (stack fs)) fs in
+      omega (arith, tellings_costs syms total e fs kind arc starts, parts, costs kind arc);
+  calls = λ arc. omega (arith, tellings_calls syms total e fs arc, calls arc);
 }
 
 -- the sums of arcs after an event
 pub event_arcs : (syms : SymbolMap) (total cost : List ℕ) (e : Event) (fs : List Frame) (old new : Contents) (kind : ℕ)
     (arc : ArcKey) → IsWhole total → IsWhole cost → StartWithin total fs
-    → RowsTold old (tellings syms (sum_of_costs total cost) fs e) new
+    → RowsAfterTellings old (tellings syms (sum_of_costs total cost) fs e) new
     → arc_sum kind arc new.arcs + open_sum kind (sum_of_costs total cost) arc
     (frames_after syms (sum_of_costs total cost) fs e)
     ≡ arc_sum kind arc old.arcs + open_sum kind total arc fs + get_or cost kind 0 * entered_by arc (stack fs)
 event_arcs syms total cost e fs old new kind arc whole one starts told =
     let more = sum_of_costs total cost in
-    let closed = told_event_costs syms more e fs kind arc (starts_grown total cost fs whole one starts) in
-    let left = open_sum-with kind more arc (pushed syms e fs) (kept syms e fs) in
-    let parts = open_sum-split kind more arc (gone syms e (stack fs)) fs in
+    let closed = tellings_costs syms more e fs kind arc (starts_grown total cost fs whole one starts) in
+    let left = open_sum-with kind more arc (pushed_activation syms e fs) (kept_frames syms e fs) in
+    let parts = open_sum-split kind more arc (drop_count syms e (stack fs)) fs in
     let grown = open_sum-grown kind total cost arc fs whole one starts in
     omega (arith, told.costs kind arc, closed, left, parts, grown)
 
 pub event_calls : (syms : SymbolMap) (total : List ℕ) (e : Event) (fs : List Frame) (old new : Contents) (arc : ArcKey)
-    → RowsTold old (tellings syms total fs e) new
-    → call_sum arc new.arcs ≡ call_sum arc old.arcs + pushes arc (pushed syms e fs)
-event_calls syms total e fs old new arc told = omega (arith, told.calls arc, told_event_calls syms total e fs arc)
+    → RowsAfterTellings old (tellings syms total fs e) new
+    → call_sum arc new.arcs ≡ call_sum arc old.arcs + pushes arc (pushed_activation syms e fs)
+event_calls syms total e fs old new arc told = omega (arith, told.calls arc, tellings_calls syms total e fs arc)
 
 -- the arcs of the frames after an event are keys
 keyed_on : (old new : List ArcRow) (fs : List Frame)
@@ -154,28 +154,28 @@ has_last arc [] qs there = there
 has_last arc (r ∷ rs) qs there = or_right (same_arc arc r.arc) (has_arc arc (rs ++ qs)) (has_last arc rs qs there)
 
 pub keyed_after : (syms : SymbolMap) (total : List ℕ) (e : Event) (fs : List Frame) (old new : Contents)
-    → AreKeyed old.arcs fs → RowsTold old (tellings syms total fs e) new
+    → AreKeyed old.arcs fs → RowsAfterTellings old (tellings syms total fs e) new
     → AreKeyed new.arcs (frames_after syms total fs e)
-keyed_after syms total e fs old new keyed told = by (pushed syms e fs) refl
+keyed_after syms total e fs old new keyed told = by (pushed_activation syms e fs) refl
   where
-    rest : AreKeyed new.arcs (kept syms e fs)
+    rest : AreKeyed new.arcs (kept_frames syms e fs)
     rest =
-        keyed_on old.arcs new.arcs (kept syms e fs)
+        keyed_on old.arcs new.arcs (kept_frames syms e fs)
         (λ arc there. told.keys arc
-        ∙ or_left (has_arc arc old.arcs) (has_arc arc (told_rows (tellings syms total fs e))) there)
-        (AreKeyed-drop old.arcs (gone syms e (stack fs)) fs keyed)
+        ∙ or_left (has_arc arc old.arcs) (has_arc arc (rows_of_tellings (tellings syms total fs e))) there)
+        (AreKeyed-drop old.arcs (drop_count syms e (stack fs)) fs keyed)
 
-    told_key : (a : Activation) (key : ArcKey) → pushed syms e fs ≡ Some a → a.arc ≡ Some key
+    told_key : (a : Activation) (key : ArcKey) → pushed_activation syms e fs ≡ Some a → a.arc ≡ Some key
         → has_arc key new.arcs ≡ true
     told_key a key is arc =
-        let last : has_arc key (told_rows (pushing (pushed syms e fs))) ≡ true
-        = ap (λ (o : Option Activation). has_arc key (told_rows (pushing o))) is
-        ∙ ap (λ o. has_arc key (told_rows (option_map_or (λ k. Pushed k ∷ []) o []))) arc
+        let last : has_arc key (rows_of_tellings (pushing (pushed_activation syms e fs))) ≡ true
+        = ap (λ (o : Option Activation). has_arc key (rows_of_tellings (pushing o))) is
+        ∙ ap (λ o. has_arc key (rows_of_tellings (option_map_or (λ k. Pushed k ∷ []) o []))) arc
         ∙ or_left (same_arc key key) false (same_arc_laws.refl key) in
-        told.keys key ∙ or_right (has_arc key old.arcs) (has_arc key (told_rows (tellings syms total fs e)))
-        (ap (has_arc key) (told_rows-append (closings total (dropped syms e fs)) (pushing (pushed syms e fs)))
-        ∙ has_last key (told_rows (closings total (dropped syms e fs)))
-        (told_rows (pushing (pushed syms e fs))) last)
+        told.keys key ∙ or_right (has_arc key old.arcs) (has_arc key (rows_of_tellings (tellings syms total fs e)))
+        (ap (has_arc key) (rows_of_tellings-append (closings total (dropped_frames syms e fs)) (pushing (pushed_activation syms e fs)))
+        ∙ has_last key (rows_of_tellings (closings total (dropped_frames syms e fs)))
+        (rows_of_tellings (pushing (pushed_activation syms e fs))) last)
 
     of_arc : (a : Activation) (from : Option ArcKey) → a.arc ≡ from
         → ((key : ArcKey) → a.arc ≡ Some key → has_arc key new.arcs ≡ true)
@@ -183,7 +183,7 @@ keyed_after syms total e fs old new keyed told = by (pushed syms e fs) refl
     of_arc a None is key = tt
     of_arc a (Some arc) is key = key arc is
 
-    by : (o : Option Activation) → pushed syms e fs ≡ o → AreKeyed new.arcs (with_frame total o (kept syms e fs))
+    by : (o : Option Activation) → pushed_activation syms e fs ≡ o → AreKeyed new.arcs (with_frame total o (kept_frames syms e fs))
     by None is = rest
     by (Some a) is = (of_arc a a.arc refl (λ key arc. told_key a key is arc), rest)
 
@@ -201,7 +201,7 @@ drop_length (suc n) (f ∷ fs) = let rest = drop_length n fs in omega (arith, re
 pub depth_after : (syms : SymbolMap) (total : List ℕ) (e : Event) (fs : List Frame)
     → length (frames_after syms total fs e) ≤ length fs + 1
 depth_after syms total e fs =
-    omega (arith, with_length total (pushed syms e fs) (kept syms e fs), drop_length (gone syms e (stack fs)) fs)
+    omega (arith, with_length total (pushed_activation syms e fs) (kept_frames syms e fs), drop_length (drop_count syms e (stack fs)) fs)
 
 -- a line more
 pub line_more : (old new : List LineRow) (place : Place) (cost : List ℕ)
@@ -246,18 +246,18 @@ cleared_add key cost (r ∷ rs) there = clear_more (same_arc key r.arc) key cost
 
 -- closed frames add to keys alone
 module _ (total : List ℕ) (f : Frame) (fs : List Frame) (rs : List ArcRow)
-    (rest : (qs : List ArcRow) → AreKeyed qs fs → cleared_arcs (add_arcs qs (told_rows (closings total fs)))
+    (rest : (qs : List ArcRow) → AreKeyed qs fs → cleared_arcs (add_arcs qs (rows_of_tellings (closings total fs)))
     ≡ cleared_arcs qs) (keyed : AreKeyed rs fs) where
   gone_on : (qs : List ArcRow) → cleared_arcs qs ≡ cleared_arcs rs
       → ((arc : ArcKey) → has_arc arc rs ≡ true → has_arc arc qs ≡ true)
-      → cleared_arcs (add_arcs qs (told_rows (closings total fs))) ≡ cleared_arcs rs
+      → cleared_arcs (add_arcs qs (rows_of_tellings (closings total fs))) ≡ cleared_arcs rs
   gone_on qs same more = rest qs (keyed_on rs qs fs more keyed) ∙ same
 
   one_closing : (from : Option ArcKey) → IfSome from (λ arc. has_arc arc rs ≡ true)
       → cleared_arcs
       (add_arcs
-      (add_arcs rs (told_rows (option_map_or (λ key. Closed key (difference_of_costs total f.start) ∷ []) from [])))
-      (told_rows (closings total fs))) ≡ cleared_arcs rs
+      (add_arcs rs (rows_of_tellings (option_map_or (λ key. Closed key (difference_of_costs total f.start) ∷ []) from [])))
+      (rows_of_tellings (closings total fs))) ≡ cleared_arcs rs
   one_closing None key = gone_on rs refl (λ arc there. there)
   one_closing (Some key) there =
       let cost = difference_of_costs total f.start in
@@ -265,11 +265,11 @@ module _ (total : List ℕ) (f : Frame) (fs : List Frame) (rs : List ArcRow)
       (λ arc old. arc_keys_more rs (cost_of_arc key cost) arc ∙ or_right (same_arc arc key) (has_arc arc rs) old)
 
 pub cleared_closings : (total : List ℕ) (fs : List Frame) (rs : List ArcRow) → AreKeyed rs fs
-    → cleared_arcs (add_arcs rs (told_rows (closings total fs))) ≡ cleared_arcs rs
+    → cleared_arcs (add_arcs rs (rows_of_tellings (closings total fs))) ≡ cleared_arcs rs
 cleared_closings total [] rs keyed = refl
 cleared_closings total (f ∷ fs) rs keyed =
-    ap cleared_arcs (ap (λ (qs : List ArcRow). add_arcs rs qs) (told_rows-append (closing total f) (closings total fs))
-    ∙ fold-append add_arc rs (told_rows (closing total f)) (told_rows (closings total fs)))
+    ap cleared_arcs (ap (λ (qs : List ArcRow). add_arcs rs qs) (rows_of_tellings-append (closing total f) (closings total fs))
+    ∙ fold-append add_arc rs (rows_of_tellings (closing total f)) (rows_of_tellings (closings total fs)))
     ∙ one_closing total f fs rs (cleared_closings total fs) keyed.1 f.from keyed.0
 
 -- a thread whose top is known is live
@@ -291,28 +291,28 @@ depth_is slots head lies = length-map (links slots head) (λ l. l.node.frame) �
 
 -- the sums of arcs after a cut
 pub cut_arcs : (total : List ℕ) (fs : List Frame) (old new : Contents) (kind : ℕ) (arc : ArcKey) → StartWithin total fs
-    → RowsTold old (closings total fs) new
+    → RowsAfterTellings old (closings total fs) new
     → arc_sum kind arc new.arcs ≡ arc_sum kind arc old.arcs + open_sum kind total arc fs
 cut_arcs total fs old new kind arc starts told =
     omega (arith, told.costs kind arc, closings_costs kind total arc fs starts)
 
 pub cut_calls : (total : List ℕ) (fs : List Frame) (old new : Contents) (arc : ArcKey)
-    → RowsTold old (closings total fs) new → call_sum arc new.arcs ≡ call_sum arc old.arcs
+    → RowsAfterTellings old (closings total fs) new → call_sum arc new.arcs ≡ call_sum arc old.arcs
 cut_calls total fs old new arc told = omega (arith, told.calls arc, closings_calls total arc fs)
 
 pub keyed_restarted : (total : List ℕ) (fs : List Frame) (old new : Contents) → AreKeyed old.arcs fs
-    → RowsTold old (closings total fs) new → AreKeyed new.arcs (restarted total fs)
+    → RowsAfterTellings old (closings total fs) new → AreKeyed new.arcs (restarted_frames total fs)
 keyed_restarted total fs old new keyed told =
     again fs
     (keyed_on old.arcs new.arcs fs
     (λ arc there. told.keys arc
-    ∙ or_left (has_arc arc old.arcs) (has_arc arc (told_rows (closings total fs))) there) keyed)
+    ∙ or_left (has_arc arc old.arcs) (has_arc arc (rows_of_tellings (closings total fs))) there) keyed)
   where
-    again : (gs : List Frame) → AreKeyed new.arcs gs → AreKeyed new.arcs (restarted total gs)
+    again : (gs : List Frame) → AreKeyed new.arcs gs → AreKeyed new.arcs (restarted_frames total gs)
     again [] all = tt
     again (g ∷ gs) all = (all.0, again gs all.1)
 
-pub entered_restarted : (total : List ℕ) (fs : List Frame) → AreEntered fs → AreEntered (restarted total fs)
+pub entered_restarted : (total : List ℕ) (fs : List Frame) → AreEntered fs → AreEntered (restarted_frames total fs)
 entered_restarted total [] all = tt
 entered_restarted total (f ∷ []) all = all
 entered_restarted total (f ∷ (g ∷ fs)) all = (
@@ -345,7 +345,7 @@ sorted_some test xs ys moved =
 
 -- an account that was cut off is sound
 keyed_cleared : (rs : List ArcRow) (total : List ℕ) (fs : List Frame) → AreKeyed rs fs
-    → AreKeyed (cleared_arcs rs) (restarted total fs)
+    → AreKeyed (cleared_arcs rs) (restarted_frames total fs)
 keyed_cleared rs total [] all = tt
 keyed_cleared rs total (f ∷ fs) all = (by f.from all.0, keyed_cleared rs total fs all.1)
   where
@@ -354,7 +354,7 @@ keyed_cleared rs total (f ∷ fs) all = (by f.from all.0, keyed_cleared rs total
     by None key = tt
     by (Some arc) key = cleared_keys rs arc ∙ key
 
-pub sound_cut : (a : Account) → IsSound a → IsSound (cut_off a)
+pub sound_cut : (a : Account) → IsSound a → IsSound (account_after_cut a)
 sound_cut a sound =
     let none = none_stand a.arcs in
     record {
@@ -367,7 +367,7 @@ sound_cut a sound =
     }
 
 -- an account that begins is sound
-pub sound_started : (syms : SymbolMap) (thread : ThreadNo) (pc : ℕ) → IsSound (started syms thread pc)
+pub sound_started : (syms : SymbolMap) (thread : ThreadNo) (pc : ℕ) → IsSound (first_account syms thread pc)
 sound_started syms thread pc = record {
   whole = refl;
   starts =

@@ -9,7 +9,7 @@ use Rattle.event_costs.specs.declared.event.Event.{Event}
 use Rattle.event_costs.specs.Keys.{ArcKey}
 use Rattle.event_costs.specs.declared.numbers.ThreadNo.{ThreadNo}
 use Rattle.sym_map.specs.SymbolMap.{SymbolMap, place_of}
-use Rattle.shadow_stack.specs.Frames.{activation, pushed, stack}
+use Rattle.shadow_stack.specs.Frames.{activation, pushed_activation, stack}
 use Rattle.shadow_stack.specs.Stacks.{Activation, top_of}
 use Rattle.shadow_stack.specs.declared.frame.Frame.{Frame}
 use Rattle.arc_costs.specs.Lines.{line_sum}
@@ -20,7 +20,7 @@ use Rattle.arc_costs.proofs.LineLemmas as lines
 use Rattle.arc_costs.proofs.RowLemmas.{zero_replicate}
 use Rattle.recorder.specs.Accounts.{Account}
 use Rattle.recorder.specs.Bounds.{IsUnit, SumsWithin}
-use Rattle.recorder.specs.Notes.{CanNote, cut_off, open_sum, started}
+use Rattle.recorder.specs.Notes.{CanNote, account_after_cut, open_sum, first_account}
 use Rattle.recorder.specs.Standing.{SameSums}
 use Rattle.recorder.specs.Sums.{entered_by, is_arc, pushes}
 use Rattle.recorder.specs.inner.Books.{Adds}
@@ -97,7 +97,7 @@ can_note syms e cost a steps within few unit shallow top = record {
         under_frames cost kind arc a.frames unit shallow,
         few,
       );
-  calls = λ arc. omega (arith, within.calls arc, pushes_one arc (pushed syms e a.frames), few);
+  calls = λ arc. omega (arith, within.calls arc, pushes_one arc (pushed_activation syms e a.frames), few);
 }
 
 either_unit : (b : Bool) (n : ℕ) → n ≤ 1 → (if b then n else 0) ≤ 1
@@ -121,11 +121,11 @@ within_more syms e cost old new steps adds unit shallow within = record {
   arcs =
       λ kind arc. omega
       (arith, adds.arcs kind arc, within.arcs kind arc, under_frames cost kind arc old.frames unit shallow);
-  calls = λ arc. omega (arith, adds.calls arc, within.calls arc, pushes_one arc (pushed syms e old.frames));
+  calls = λ arc. omega (arith, adds.calls arc, within.calls arc, pushes_one arc (pushed_activation syms e old.frames));
 }
 
 -- a cut, a refused one, and a thread that begins
-pub within_cut : (old new : Account) (steps : ℕ) → new ≡ cut_off old → SumsWithin steps old → SumsWithin steps new
+pub within_cut : (old new : Account) (steps : ℕ) → new ≡ account_after_cut old → SumsWithin steps old → SumsWithin steps new
 within_cut old new steps is within =
     let none = arcs.none_stand old.arcs in
     subst (λ (a : Account). SumsWithin steps a) (sym is)
@@ -146,7 +146,7 @@ within_same old new steps same within = record {
   calls = λ arc. omega (arith, within.calls arc, same.calls arc);
 }
 
-pub within_started : (syms : SymbolMap) (thread : ThreadNo) (pc : ℕ) → SumsWithin 0 (started syms thread pc)
+pub within_started : (syms : SymbolMap) (thread : ThreadNo) (pc : ℕ) → SumsWithin 0 (first_account syms thread pc)
 within_started syms thread pc = record {
   total = λ kind. let none : get_or no_cost kind 0 ≡ 0 = zero_replicate event_kinds kind in omega (arith, none);
   lines = λ kind place. omega arith;

@@ -18,8 +18,8 @@ use Rattle.event_costs.specs.declared.outcome.Noted.{Noted}
 use Rattle.sym_map.specs.SymbolMap.{SymbolMap, place_of}
 use Rattle.shadow_stack.specs.Kinds.{call_of, is_root, jump}
 use Rattle.shadow_stack.specs.Stacks.{Activation, Stack, is_rooted}
-use Rattle.shadow_stack.specs.Changes.{Change, change, change_by, cut, down_to, entered, gone, next_func, settle_on}
-use Rattle.shadow_stack.specs.Frames.{activation, closing, closings, dropped, frame_of, frames_after, kept, pushed}
+use Rattle.shadow_stack.specs.Changes.{Change, change, change_by, cut, down_to, new_activation, drop_count, next_func, settle_on}
+use Rattle.shadow_stack.specs.Frames.{activation, closing, closings, dropped_frames, frame_of, frames_after, kept_frames, pushed_activation}
 use Rattle.shadow_stack.specs.Frames.{pushing, stack, tellings, with_frame}
 use Rattle.shadow_stack.specs.declared.frame.Frame.{Frame}
 use Rattle.shadow_stack.specs.declared.frame.Kind.{Kind}
@@ -29,12 +29,12 @@ use Rattle.recorder.specs.Accounts.{live_in}
 use Rattle.event_costs.specs.FuncSet.{is_among}
 use Rattle.recorder.specs.Notes.{noted_answer}
 use Rattle.recorder.specs.inner.Books.{AreEntered, IsEntered}
-use Rattle.recorder.specs.inner.Tellers.{is_among_last, noted_more, root_is_left}
+use Rattle.recorder.specs.inner.Tellers.{is_among_last, noted_more, root_leaves}
 
 -- A change pushes nothing, or a frame that isn't a root on what it keeps.
 abbrev IsPush : SymbolMap → Event → Change → Type 0
 IsPush syms e c =
-    (c.pushed ≡ None) ⊎ ((kind : Kind) × (c.pushed ≡ Some (entered syms e kind c.kept)) × (is_root kind ≡ false))
+    (c.pushed ≡ None) ⊎ ((kind : Kind) × (c.pushed ≡ Some (new_activation syms e kind c.rest)) × (is_root kind ≡ false))
 
 settle_push : (syms : SymbolMap) (e : Event) (s : Stack) (rest : Option Stack) → IsPush syms e (settle_on syms e s rest)
 settle_push syms e s None = inr (jump, refl, refl)
@@ -47,7 +47,7 @@ push_by syms e s Jump = settle_push syms e (cut syms e s) (down_to (next_func sy
 push_by syms e s Swap = inr (call_of e, refl, refl)
 
 push_if : (syms : SymbolMap) (e : Event) (s : Stack) (ends : Bool)
-    → IsPush syms e (if ends then record { kept = []; pushed = None } else change_by syms e s e.done.flow)
+    → IsPush syms e (if ends then record { rest = []; pushed = None } else change_by syms e s e.done.flow)
 push_if syms e s true = inl refl
 push_if syms e s false = push_by syms e s e.done.flow
 
@@ -55,46 +55,46 @@ pub change_push : (syms : SymbolMap) (e : Event) (s : Stack) → IsPush syms e (
 change_push syms e s = push_if syms e s e.ends
 
 no_push_at_end : (syms : SymbolMap) (e : Event) (s : Stack) → e.ends ≡ true → (change syms e s).pushed ≡ None
-no_push_at_end syms e s ends = let last : Change = record { kept = []; pushed = None } in
+no_push_at_end syms e s ends = let last : Change = record { rest = []; pushed = None } in
     ap (λ b. (if b then last else change_by syms e s e.done.flow).pushed) ends
 
-none_kept_at_end : (syms : SymbolMap) (e : Event) (s : Stack) → e.ends ≡ true → (change syms e s).kept ≡ []
-none_kept_at_end syms e s ends = let last : Change = record { kept = []; pushed = None } in
-    ap (λ b. (if b then last else change_by syms e s e.done.flow).kept) ends
+none_kept_at_end : (syms : SymbolMap) (e : Event) (s : Stack) → e.ends ≡ true → (change syms e s).rest ≡ []
+none_kept_at_end syms e s ends = let last : Change = record { rest = []; pushed = None } in
+    ap (λ b. (if b then last else change_by syms e s e.done.flow).rest) ends
 
 -- A frame that is pushed on others.
 pub record IsPushed (syms : SymbolMap) (e : Event) (s : Stack) : Type 0 where
   pub kind : Kind
   pub caller : Activation
   pub under : Stack
-  pub kept : (change syms e s).kept ≡ caller ∷ under
-  pub pushed : (change syms e s).pushed ≡ Some (entered syms e kind (caller ∷ under))
+  pub rest : (change syms e s).rest ≡ caller ∷ under
+  pub pushed : (change syms e s).pushed ≡ Some (new_activation syms e kind (caller ∷ under))
   pub no_root : is_root kind ≡ false
 
-on_some : (syms : SymbolMap) (e : Event) (s : Stack) (kind : Kind) (rest : Stack) → (change syms e s).kept ≡ rest
-    → 0 < length rest → (change syms e s).pushed ≡ Some (entered syms e kind (change syms e s).kept)
+on_some : (syms : SymbolMap) (e : Event) (s : Stack) (kind : Kind) (rest : Stack) → (change syms e s).rest ≡ rest
+    → 0 < length rest → (change syms e s).pushed ≡ Some (new_activation syms e kind (change syms e s).rest)
     → is_root kind ≡ false → IsPushed syms e s
-on_some syms e s kind [] is some pushed no_root = absurd (omega (arith, some))
-on_some syms e s kind (a ∷ rest) is some pushed no_root =
+on_some syms e s kind [] is some pushed_activation no_root = absurd (omega (arith, some))
+on_some syms e s kind (a ∷ rest) is some pushed_activation no_root =
     record {
       kind = kind;
       caller = a;
       under = rest;
-      kept = is;
-      pushed = pushed ∙ ap (λ (t : Stack). Some (entered syms e kind t)) is;
+      rest = is;
+      pushed = pushed_activation ∙ ap (λ (t : Stack). Some (new_activation syms e kind t)) is;
       no_root = no_root;
     }
 
 some_kept : (syms : SymbolMap) (e : Event) (s : Stack) → is_rooted s ≡ true → e.ends ≡ false
-    → 0 < length (change syms e s).kept
-some_kept syms e s rooted goes_on = rooted-some (change syms e s).kept (change-rooted syms e s goes_on rooted)
+    → 0 < length (change syms e s).rest
+some_kept syms e s rooted goes_on = rooted-some (change syms e s).rest (change-rooted syms e s goes_on rooted)
 
 push_cases : (syms : SymbolMap) (e : Event) (s : Stack) → is_rooted s ≡ true → (b : Bool) → e.ends ≡ b
     → IsPush syms e (change syms e s) → ((change syms e s).pushed ≡ None) ⊎ IsPushed syms e s
 push_cases syms e s rooted true is p = inl (no_push_at_end syms e s is)
 push_cases syms e s rooted false is (inl none) = inl none
 push_cases syms e s rooted false is (inr p) =
-    inr (on_some syms e s p.0 (change syms e s).kept refl (some_kept syms e s rooted is) p.1 p.2)
+    inr (on_some syms e s p.0 (change syms e s).rest refl (some_kept syms e s rooted is) p.1 p.2)
 
 pub pushes_what : (syms : SymbolMap) (e : Event) (s : Stack) → is_rooted s ≡ true
     → ((change syms e s).pushed ≡ None) ⊎ IsPushed syms e s
@@ -109,9 +109,9 @@ AreEntered-drop (suc (suc n)) (f ∷ []) all = tt
 AreEntered-drop (suc n) (f ∷ (g ∷ fs)) all = AreEntered-drop n (g ∷ fs) all.1
 
 pub kept_stack : (syms : SymbolMap) (e : Event) (fs : List Frame)
-    → stack (kept syms e fs) ≡ (change syms e (stack fs)).kept
-kept_stack syms e fs = stack-drop (gone syms e (stack fs)) fs
-    ∙ drop-end (change syms e (stack fs)).kept (stack fs) (change-end syms e (stack fs))
+    → stack (kept_frames syms e fs) ≡ (change syms e (stack fs)).rest
+kept_stack syms e fs = stack-drop (drop_count syms e (stack fs)) fs
+    ∙ drop-end (change syms e (stack fs)).rest (stack fs) (change-end syms e (stack fs))
 
 entered_more : (f : Frame) (fs : List Frame) (a : Activation) (s : Stack) → stack fs ≡ a ∷ s → IsEntered f
     → AreEntered fs → AreEntered (f ∷ fs)
@@ -124,12 +124,12 @@ AreEntered-after syms total e fs rooted all = by (pushes_what syms e (stack fs) 
   where
     by : ((change syms e (stack fs)).pushed ≡ None) ⊎ IsPushed syms e (stack fs)
         → AreEntered (frames_after syms total fs e)
-    by (inl none) = subst (λ (p : Option Activation). AreEntered (with_frame total p (kept syms e fs))) (sym none)
-        (AreEntered-drop (gone syms e (stack fs)) fs all)
+    by (inl none) = subst (λ (p : Option Activation). AreEntered (with_frame total p (kept_frames syms e fs))) (sym none)
+        (AreEntered-drop (drop_count syms e (stack fs)) fs all)
     by (inr p) =
-        let a : Activation = entered syms e p.kind (p.caller ∷ p.under) in
-        subst (λ (o : Option Activation). AreEntered (with_frame total o (kept syms e fs))) (sym p.pushed)
-        (entered_more (frame_of total a) (kept syms e fs) p.caller p.under (kept_stack syms e fs ∙ p.kept)
+        let a : Activation = new_activation syms e p.kind (p.caller ∷ p.under) in
+        subst (λ (o : Option Activation). AreEntered (with_frame total o (kept_frames syms e fs))) (sym p.pushed)
+        (entered_more (frame_of total a) (kept_frames syms e fs) p.caller p.under (kept_stack syms e fs ∙ p.rest)
         (record {
           arc = record {
             caller = p.caller.func;
@@ -141,7 +141,7 @@ AreEntered-after syms total e fs rooted all = by (pushes_what syms e (stack fs) 
           callee = refl;
           kind = p.no_root;
         })
-        (AreEntered-drop (gone syms e (stack fs)) fs all))
+        (AreEntered-drop (drop_count syms e (stack fs)) fs all))
 
 -- the live frames are all but the root
 pub live_frames : (fs : List Frame) → AreEntered fs → live_in fs ≡ length fs - 1
@@ -230,32 +230,32 @@ take_all n fs is = ap (λ k. take k fs) is ∙ whole fs
 
 left_by : (syms : SymbolMap) (watched : List FuncId) (e : Event) (fs : List Frame) → AreEntered fs
     → is_rooted (stack fs) ≡ true → (b : Bool) → e.ends ≡ b
-    → (b && is_among_last watched fs) || arcs_among watched (dropped syms e fs)
-    ≡ list_any (λ f. is_among watched f.func) (dropped syms e fs)
+    → (b && is_among_last watched fs) || arcs_among watched (dropped_frames syms e fs)
+    ≡ list_any (λ f. is_among watched f.func) (dropped_frames syms e fs)
 left_by syms watched e fs all rooted true is =
     let none = none_kept_at_end syms e (stack fs) is in
     let many = length-map fs activation in
-    let whole : dropped syms e fs ≡ fs
-    = take_all (gone syms e (stack fs)) fs (omega (arith, ap (length {A = Activation}) none, many)) in
+    let whole : dropped_frames syms e fs ≡ fs
+    = take_all (drop_count syms e (stack fs)) fs (omega (arith, ap (length {A = Activation}) none, many)) in
     ap (λ (gs : List Frame). is_among_last watched fs || arcs_among watched gs) whole ∙ all_left watched fs all
     ∙ sym (ap (list_any (λ (f : Frame). is_among watched f.func)) whole)
 left_by syms watched e fs all rooted false is =
     let some = some_kept syms e (stack fs) rooted is in
     let many = length-map fs activation in
-    let less = end-le (change syms e (stack fs)).kept (stack fs) (change-end syms e (stack fs)) in
-    front_left watched (gone syms e (stack fs)) fs all (omega (arith, some, many, less))
+    let less = end-le (change syms e (stack fs)).rest (stack fs) (change-end syms e (stack fs)) in
+    front_left watched (drop_count syms e (stack fs)) fs all (omega (arith, some, many, less))
 
 noted_pushing : (syms : SymbolMap) (watched : List FuncId) (e : Event) (fs : List Frame) (left : Bool)
     → is_rooted (stack fs) ≡ true
-    → fold (noted_more watched) (record { pushed = None; left = left }) (pushing (pushed syms e fs)) ≡ record {
-      pushed = option_map (λ a. a.func) (pushed syms e fs);
+    → fold (noted_more watched) (record { pushed = None; left = left }) (pushing (pushed_activation syms e fs)) ≡ record {
+      pushed = option_map (λ a. a.func) (pushed_activation syms e fs);
       left = left;
     }
 noted_pushing syms watched e fs left rooted = by (pushes_what syms e (stack fs) rooted)
   where
-    by : (pushed syms e fs ≡ None) ⊎ IsPushed syms e (stack fs)
-        → fold (noted_more watched) (record { pushed = None; left = left }) (pushing (pushed syms e fs)) ≡ record {
-          pushed = option_map (λ a. a.func) (pushed syms e fs);
+    by : (pushed_activation syms e fs ≡ None) ⊎ IsPushed syms e (stack fs)
+        → fold (noted_more watched) (record { pushed = None; left = left }) (pushing (pushed_activation syms e fs)) ≡ record {
+          pushed = option_map (λ a. a.func) (pushed_activation syms e fs);
           left = left;
         }
     by (inl none) =
@@ -269,19 +269,19 @@ noted_pushing syms watched e fs left rooted = by (pushes_what syms e (stack fs) 
 
 -- what a teller has noted once an event was told
 pub noted_told : (syms : SymbolMap) (watched : List FuncId) (total : List ℕ) (e : Event) (fs : List Frame)
-    (first : Bool) → AreEntered fs → is_rooted (stack fs) ≡ true → first ≡ root_is_left watched e fs
+    (first : Bool) → AreEntered fs → is_rooted (stack fs) ≡ true → first ≡ root_leaves watched e fs
     → fold (noted_more watched) (record { pushed = None; left = first }) (tellings syms total fs e)
     ≡ noted_answer syms watched e fs
 noted_told syms watched total e fs first all rooted is =
     let none : Noted = record { pushed = None; left = first } in
-    let left : first || arcs_among watched (dropped syms e fs)
-    ≡ list_any (λ f. is_among watched f.func) (dropped syms e fs)
-    = ap (λ b. b || arcs_among watched (dropped syms e fs)) is ∙ left_by syms watched e fs all rooted e.ends refl in
-    fold-append (noted_more watched) none (closings total (dropped syms e fs)) (pushing (pushed syms e fs))
-    ∙ ap (λ (n : Noted). fold (noted_more watched) n (pushing (pushed syms e fs)))
-    (noted_closings watched total (dropped syms e fs) none)
-    ∙ noted_pushing syms watched e fs (first || arcs_among watched (dropped syms e fs)) rooted
-    ∙ ap (λ b. record { pushed = option_map (λ (a : Activation). a.func) (pushed syms e fs); left = b }) left
+    let left : first || arcs_among watched (dropped_frames syms e fs)
+    ≡ list_any (λ f. is_among watched f.func) (dropped_frames syms e fs)
+    = ap (λ b. b || arcs_among watched (dropped_frames syms e fs)) is ∙ left_by syms watched e fs all rooted e.ends refl in
+    fold-append (noted_more watched) none (closings total (dropped_frames syms e fs)) (pushing (pushed_activation syms e fs))
+    ∙ ap (λ (n : Noted). fold (noted_more watched) n (pushing (pushed_activation syms e fs)))
+    (noted_closings watched total (dropped_frames syms e fs) none)
+    ∙ noted_pushing syms watched e fs (first || arcs_among watched (dropped_frames syms e fs)) rooted
+    ∙ ap (λ b. record { pushed = option_map (λ (a : Activation). a.func) (pushed_activation syms e fs); left = b }) left
 
 -- the lowest frame
 last_among : (watched : List FuncId) (g : Frame) (fs : List Frame) (f : Frame)

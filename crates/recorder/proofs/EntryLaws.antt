@@ -21,22 +21,22 @@ use Rattle.arc_costs.specs.Rows.{ArcRow, LineRow}
 use Rattle.arc_costs.proofs.ArcLemmas.{arcs_keys, same_arc_laws}
 use Rattle.arc_costs.proofs.LineLemmas.{same_place_laws}
 use Rattle.arc_costs.proofs.RowLemmas as rows
-use Rattle.shadow_stack.specs.Changes.{gone}
-use Rattle.shadow_stack.specs.Frames.{closing, closings, dropped, pushed, pushing, stack, StartWithin, tellings}
+use Rattle.shadow_stack.specs.Changes.{drop_count}
+use Rattle.shadow_stack.specs.Frames.{closing, closings, dropped_frames, pushed_activation, pushing, stack, StartWithin, tellings}
 use Rattle.shadow_stack.specs.Stacks.{Activation}
 use Rattle.shadow_stack.specs.declared.frame.Frame.{Frame}
 use Rattle.shadow_stack.proofs.FrameLemmas.{StartWithin-after, StartWithin-restarted}
-use Rattle.recorder.specs.Accounts.{account, Account, kept, kept_in, Kept, nobody, Recording}
+use Rattle.recorder.specs.Accounts.{account, Account, ledger, ledger_in, Ledger, nobody, Recording}
 use Rattle.recorder.specs.Entries.{account_after, account_of, Begins, Cuts, Entry}
 use Rattle.recorder.specs.Entries.{HasWholeCost, HaveWholeCosts, History}
 use Rattle.recorder.specs.Entries.{history_after, history_of, is_entry_of, LeadTo}
-use Rattle.recorder.specs.Entries.{Notes, own_account_after, own_entries}
-use Rattle.recorder.specs.Entries.{Leads, own_history_after, StandsForHistory, thread_of}
+use Rattle.recorder.specs.Entries.{Notes, account_after_entry, entries_of}
+use Rattle.recorder.specs.Entries.{Leads, history_after_entry, StandsForHistory, thread_of}
 use Rattle.recorder.proofs.RecordingLemmas.{same_thread}
-use Rattle.recorder.specs.Notes.{cut_off, noted, started, told_rows}
+use Rattle.recorder.specs.Notes.{account_after_cut, account_after_note, first_account, rows_of_tellings}
 use Rattle.recorder.specs.inner.Books.{Adds}
-use Rattle.recorder.specs.inner.Tellers.{RowsTold}
-use Rattle.recorder.specs.inner.TellerLaws.{told_rows-append}
+use Rattle.recorder.specs.inner.Tellers.{RowsAfterTellings}
+use Rattle.recorder.specs.inner.TellerLaws.{rows_of_tellings-append}
 use Rattle.recorder.proofs.BookLemmas as book
 use Rattle.recorder.proofs.StandingLemmas.{stands_for_cut, stands_for_more, stands_started}
 use Rattle.recorder.proofs.BookLemmas.{whole_sum}
@@ -128,35 +128,35 @@ both_whole [] qs all others = others
 both_whole (r ∷ rs) qs all others = (all.0, both_whole rs qs all.1 others)
 
 closing_whole : (total start : List ℕ) (from : Option ArcKey) → IsWhole total → AllZip (λ t s. s ≤ t) total start
-    → WholeArcs (told_rows (option_map_or (λ key. Closed key (difference_of_costs total start) ∷ []) from []))
+    → WholeArcs (rows_of_tellings (option_map_or (λ key. Closed key (difference_of_costs total start) ∷ []) from []))
 closing_whole total start None whole below = tt
 closing_whole total start (Some key) whole below =
     (length-zip2 (λ x y. x - y) total start (alike total start below) ∙ whole, tt)
 
 closings_whole : (total : List ℕ) (fs : List Frame) → IsWhole total → StartWithin total fs
-    → WholeArcs (told_rows (closings total fs))
+    → WholeArcs (rows_of_tellings (closings total fs))
 closings_whole total [] whole all = tt
 closings_whole total (f ∷ fs) whole all =
-    subst WholeArcs (sym (told_rows-append (closing total f) (closings total fs)))
-    (both_whole (told_rows (closing total f)) (told_rows (closings total fs))
+    subst WholeArcs (sym (rows_of_tellings-append (closing total f) (closings total fs)))
+    (both_whole (rows_of_tellings (closing total f)) (rows_of_tellings (closings total fs))
     (closing_whole total f.start f.from whole (all 0 f (omega arith)))
     (closings_whole total fs whole (λ k d h. all (suc k) d (omega arith))))
 
-pushing_whole : (p : Option Activation) → WholeArcs (told_rows (pushing p))
+pushing_whole : (p : Option Activation) → WholeArcs (rows_of_tellings (pushing p))
 pushing_whole None = tt
 pushing_whole (Some a) = by a.arc
   where
-    by : (from : Option ArcKey) → WholeArcs (told_rows (option_map_or (λ key. Pushed key ∷ []) from []))
+    by : (from : Option ArcKey) → WholeArcs (rows_of_tellings (option_map_or (λ key. Pushed key ∷ []) from []))
     by None = tt
     by (Some key) = (refl, tt)
 
 tellings_whole : (syms : SymbolMap) (total : List ℕ) (fs : List Frame) (e : Event) → IsWhole total
-    → StartWithin total fs → WholeArcs (told_rows (tellings syms total fs e))
+    → StartWithin total fs → WholeArcs (rows_of_tellings (tellings syms total fs e))
 tellings_whole syms total fs e whole all =
-    subst WholeArcs (sym (told_rows-append (closings total (dropped syms e fs)) (pushing (pushed syms e fs))))
-    (both_whole (told_rows (closings total (dropped syms e fs))) (told_rows (pushing (pushed syms e fs)))
-    (closings_whole total (dropped syms e fs) whole (book.StartWithin-take total (gone syms e (stack fs)) fs all))
-    (pushing_whole (pushed syms e fs)))
+    subst WholeArcs (sym (rows_of_tellings-append (closings total (dropped_frames syms e fs)) (pushing (pushed_activation syms e fs))))
+    (both_whole (rows_of_tellings (closings total (dropped_frames syms e fs))) (rows_of_tellings (pushing (pushed_activation syms e fs)))
+    (closings_whole total (dropped_frames syms e fs) whole (book.StartWithin-take total (drop_count syms e (stack fs)) fs all))
+    (pushing_whole (pushed_activation syms e fs)))
 
 -- What holds of each account.
 record IsTidy (a : Account) : Type 0 where
@@ -175,15 +175,15 @@ module _ (syms : SymbolMap) (e : Event) (cost : List ℕ) (a : Account) (tidy : 
   starts : StartWithin more a.frames
   starts = book.starts_grown a.total cost a.frames tidy.whole one tidy.starts
 
-  news : WholeArcs (told_rows (tellings syms more a.frames e))
+  news : WholeArcs (rows_of_tellings (tellings syms more a.frames e))
   news = tellings_whole syms more a.frames e whole starts
 
-  noted_tidy : IsTidy (noted syms e cost a)
+  noted_tidy : IsTidy (account_after_note syms e cost a)
   noted_tidy = record {
     whole = whole;
     starts = StartWithin-after syms more a.frames e starts;
     lines = whole_line_added a.lines (line (place_of syms e.done.pc) cost) tidy.lines one;
-    arcs = whole_arcs_added a.arcs (told_rows (tellings syms more a.frames e)) tidy.arcs news;
+    arcs = whole_arcs_added a.arcs (rows_of_tellings (tellings syms more a.frames e)) tidy.arcs news;
   }
 
   abbrev before : Contents
@@ -192,23 +192,23 @@ module _ (syms : SymbolMap) (e : Event) (cost : List ℕ) (a : Account) (tidy : 
   abbrev afterwards : Contents
   afterwards = record {
     lines = a.lines;
-    arcs = add_arcs a.arcs (told_rows (tellings syms more a.frames e));
+    arcs = add_arcs a.arcs (rows_of_tellings (tellings syms more a.frames e));
     line_room = 0;
     arc_room = 0;
   }
 
-  told : RowsTold before (tellings syms more a.frames e) afterwards
+  told : RowsAfterTellings before (tellings syms more a.frames e) afterwards
   told = record {
     arcs = refl;
     lines = refl;
-    costs = λ kind arc. arcs_costs kind arc a.arcs (told_rows (tellings syms more a.frames e)) tidy.arcs news;
-    calls = λ arc. arcs_calls arc a.arcs (told_rows (tellings syms more a.frames e));
-    keys = λ arc. arcs_keys a.arcs (told_rows (tellings syms more a.frames e)) arc;
+    costs = λ kind arc. arcs_costs kind arc a.arcs (rows_of_tellings (tellings syms more a.frames e)) tidy.arcs news;
+    calls = λ arc. arcs_calls arc a.arcs (rows_of_tellings (tellings syms more a.frames e));
+    keys = λ arc. arcs_keys a.arcs (rows_of_tellings (tellings syms more a.frames e)) arc;
     line_room = refl;
     arc_room = omega arith;
   }
 
-  noted_adds : Adds syms e cost a (noted syms e cost a)
+  noted_adds : Adds syms e cost a (account_after_note syms e cost a)
   noted_adds = record {
     total = λ kind. rows.number_of_sum a.total cost kind (tidy.whole ∙ sym one);
     lines = λ kind place.
@@ -229,7 +229,7 @@ arcs_cleared : (rs : List ArcRow) → WholeArcs (cleared_arcs rs)
 arcs_cleared [] = tt
 arcs_cleared (r ∷ rs) = (refl, arcs_cleared rs)
 
-cut_tidy : (a : Account) → IsTidy a → IsTidy (cut_off a)
+cut_tidy : (a : Account) → IsTidy a → IsTidy (account_after_cut a)
 cut_tidy a tidy = record {
   whole = tidy.whole;
   starts = StartWithin-restarted a.total a.frames;
@@ -237,7 +237,7 @@ cut_tidy a tidy = record {
   arcs = arcs_cleared a.arcs;
 }
 
-started_tidy : (syms : SymbolMap) (thread : ThreadNo) (pc : ℕ) → IsTidy (started syms thread pc)
+started_tidy : (syms : SymbolMap) (thread : ThreadNo) (pc : ℕ) → IsTidy (first_account syms thread pc)
 started_tidy syms thread pc =
     let sound = book.sound_started syms thread pc in
     record { whole = refl; starts = sound.starts; lines = tt; arcs = tt }
@@ -248,22 +248,22 @@ record Told (syms : SymbolMap) (h : History) (a : Account) : Type 0 where
   pub stands : StandsForHistory syms h a
 
 own_told : (syms : SymbolMap) (e : Entry) (h : History) (a : Account) → HasWholeCost e → Told syms h a
-    → Told syms (own_history_after syms h e) (own_account_after syms a e)
+    → Told syms (history_after_entry syms h e) (account_after_entry syms a e)
 own_told syms (Begins thread pc) h a one old =
     record { tidy = started_tidy syms thread pc; stands = stands_started syms thread pc }
 own_told syms (Notes x) h a one old = record {
   tidy = noted_tidy syms x.event x.cost a old.tidy one;
   stands =
-      stands_for_more syms x.event x.cost a (noted syms x.event x.cost a) h.first h.earlier h.last refl
+      stands_for_more syms x.event x.cost a (account_after_note syms x.event x.cost a) h.first h.earlier h.last refl
       (noted_adds syms x.event x.cost a old.tidy one) old.stands;
 }
 own_told syms (Cuts thread) h a one old = record {
   tidy = cut_tidy a old.tidy;
-  stands = stands_for_cut syms h.first h.earlier h.last a (cut_off a) refl old.stands;
+  stands = stands_for_cut syms h.first h.earlier h.last a (account_after_cut a) refl old.stands;
 }
 
 any_told : (syms : SymbolMap) (e : Entry) (h : History) (a : Account) (b : Bool) → HasWholeCost e → Told syms h a
-    → Told syms (if b then own_history_after syms h e else h) (if b then own_account_after syms a e else a)
+    → Told syms (if b then history_after_entry syms h e else h) (if b then account_after_entry syms a e else a)
 any_told syms e h a true one old = own_told syms e h a one old
 any_told syms e h a false one old = old
 
@@ -310,17 +310,17 @@ module _ {S : Type 0} (thread : ThreadNo) (own : S → Entry → S) where
   own_more false e entries rest s is more =
       ap (λ b. fold step (if b then own s e else s) entries) is ∙ more s
 
-  own_only : (entries : List Entry) (s : S) → fold step s entries ≡ fold step s (own_entries thread entries)
+  own_only : (entries : List Entry) (s : S) → fold step s entries ≡ fold step s (entries_of thread entries)
   own_only [] s = refl
   own_only (e ∷ entries) s =
-      own_more (is_entry_of thread e) e entries (own_entries thread entries) s refl (λ t. own_only entries t)
+      own_more (is_entry_of thread e) e entries (entries_of thread entries) s refl (λ t. own_only entries t)
 
 pub accounts_alone : (syms : SymbolMap) (thread : ThreadNo) (xs ys : List Entry)
-    → own_entries thread xs ≡ own_entries thread ys → account_of syms thread xs ≡ account_of syms thread ys
+    → entries_of thread xs ≡ entries_of thread ys → account_of syms thread xs ≡ account_of syms thread ys
 accounts_alone syms thread xs ys same =
-    own_only thread (own_account_after syms) xs (nobody thread).account
+    own_only thread (account_after_entry syms) xs (nobody thread).account
     ∙ ap (fold (account_after syms thread) (nobody thread).account) same
-    ∙ sym (own_only thread (own_account_after syms) ys (nobody thread).account)
+    ∙ sym (own_only thread (account_after_entry syms) ys (nobody thread).account)
 
 -- a recorder that is led by entries has these accounts
 led : (syms : SymbolMap) (thread : ThreadNo) (entries : List Entry) (r s : Recording) → LeadTo syms r entries s
@@ -334,20 +334,20 @@ pub accounts_led : (syms : SymbolMap) (thread : ThreadNo) (entries : List Entry)
     → LeadTo syms r entries s → account s thread ≡ account_of syms thread entries
 accounts_led syms thread entries r s none lead =
     led syms thread entries r s lead
-    ∙ ap (λ (ks : List Kept). fold (account_after syms thread) (kept_in thread ks).account entries) none
+    ∙ ap (λ (ks : List Ledger). fold (account_after syms thread) (ledger_in thread ks).account entries) none
 
 -- an entry that makes the account of its thread and leaves the others leads on
 pub leads : (syms : SymbolMap) (e : Entry) (r s : Recording)
-    → account s (thread_of e) ≡ own_account_after syms (account r (thread_of e)) e
-    → ((o : ThreadNo) → o.0 ≢ (thread_of e).0 → kept s o ≡ kept r o) → Leads syms r e s
+    → account s (thread_of e) ≡ account_after_entry syms (account r (thread_of e)) e
+    → ((o : ThreadNo) → o.0 ≢ (thread_of e).0 → ledger s o ≡ ledger r o) → Leads syms r e s
 leads syms e r s own others o = by (eqb_tells (thread_of e).0 o.0)
   where
     by : (((thread_of e).0 == o.0 ≡ true) × ((thread_of e).0 ≡ o.0))
         ⊎ (((thread_of e).0 == o.0 ≡ false) × ((thread_of e).0 ≢ o.0))
         → account s o ≡ account_after syms o (account r o) e
     by (inl same) =
-        subst (λ (t : ThreadNo). account s t ≡ own_account_after syms (account r t) e)
+        subst (λ (t : ThreadNo). account s t ≡ account_after_entry syms (account r t) e)
         (same_thread (thread_of e) o same.1) own
-        ∙ ap (λ b. if b then own_account_after syms (account r o) e else account r o) (sym same.0)
-    by (inr differs) = ap (λ (k : Kept). k.account) (others o (λ is. differs.1 (sym is)))
-        ∙ ap (λ b. if b then own_account_after syms (account r o) e else account r o) (sym differs.0)
+        ∙ ap (λ b. if b then account_after_entry syms (account r o) e else account r o) (sym same.0)
+    by (inr differs) = ap (λ (k : Ledger). k.account) (others o (λ is. differs.1 (sym is)))
+        ∙ ap (λ b. if b then account_after_entry syms (account r o) e else account r o) (sym differs.0)

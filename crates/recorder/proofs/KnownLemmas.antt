@@ -4,7 +4,7 @@ use Rattle.std.specs.Option.{option_to_list}
 use Rattle.event_costs.specs.declared.event.Event.{Event}
 use Rattle.event_costs.specs.Keys.{ArcKey}
 use Rattle.sym_map.specs.SymbolMap.{IsFile, IsFunc, SymbolMap}
-use Rattle.shadow_stack.specs.Changes.{change, entered}
+use Rattle.shadow_stack.specs.Changes.{change, new_activation}
 use Rattle.shadow_stack.specs.Stacks.{Activation, Stack, root}
 use Rattle.shadow_stack.specs.Traces.{stack_of}
 use Rattle.shadow_stack.specs.declared.frame.Kind.{Kind}
@@ -29,7 +29,7 @@ module _ (syms : SymbolMap) (knows : KnowsPlaces syms) where
   root_known pc a (inl is) = subst IsKnown is (record { func = (knows pc).0; arc = λ k there. elim there [ ] })
   root_known pc a (inr there) = elim there [ ]
 
-  entered_known : (e : Event) (kind : Kind) (s : Stack) → AreKnownIn s → IsKnown (entered syms e kind s)
+  entered_known : (e : Event) (kind : Kind) (s : Stack) → AreKnownIn s → IsKnown (new_activation syms e kind s)
   entered_known e kind [] all = record { func = (knows e.done.next).0; arc = λ k there. elim there [ ] }
   entered_known e kind (a ∷ s) all = record {
     func = (knows e.done.next).0;

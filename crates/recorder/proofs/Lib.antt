@@ -3,7 +3,7 @@ pub mod SumLemmas
 pub mod EnteredLemmas
 pub mod BookLemmas
 pub mod RecordingLemmas
-pub mod KeptLemmas
+pub mod LedgerLemmas
 pub mod StandingLemmas
 pub mod BoundLemmas
 pub mod LawLemmas

@@ -25,7 +25,7 @@ use Rattle.arc_costs.specs.Keys.{by_kind}
 use Rattle.arc_costs.proofs.KindLemmas.{by_kind_at, cost_is}
 use Rattle.arc_costs.proofs.RiseLemmas as rise
 use Rattle.sym_map.specs.SymbolMap.{SymbolMap, place_of}
-use Rattle.shadow_stack.specs.Traces.{Seen}
+use Rattle.shadow_stack.specs.Traces.{EventOnStack}
 use Rattle.recorder.specs.Laws.{IsIn}
 use Rattle.recorder.specs.Standing.{AreRowsOf}
 use Rattle.recorder.specs.Sums.{self_cost}
@@ -116,7 +116,7 @@ pub place_itself : (a : Place) → same_place a a ≡ true
 place_itself a =
     (λ i. eq-eqb a.func.0 a.func.0 refl i && (eq-eqb a.file.0 a.file.0 refl i && eq-eqb a.line a.line refl i))
 
-module _ (syms : SymbolMap) (xs : List Seen) (listed : Listed) (are : AreRowsOf syms xs listed)
+module _ (syms : SymbolMap) (xs : List EventOnStack) (listed : Listed) (are : AreRowsOf syms xs listed)
     (whole : (r : LineRow) → IsIn listed.lines r → length r.cost ≡ event_kinds) where
   abbrev key : LineRow → Place
   key r = lines.place_of r
@@ -150,7 +150,7 @@ module _ (syms : SymbolMap) (xs : List Seen) (listed : Listed) (are : AreRowsOf 
       rise.in_risen place_order place_total place_only (map (λ x. place_of syms x.event.done.pc) xs) r.place
       (subst (IsIn (map (λ x. place_of syms x.event.done.pc) xs))
       (sym (place_alike r.place (place_of syms event.0.event.done.pc) event.2))
-      (rise.in-map (λ (x : Seen). place_of syms x.event.done.pc) xs event.0 event.1))
+      (rise.in-map (λ (x : EventOnStack). place_of syms x.event.done.pc) xs event.0 event.1))
 
   back : (k : Place) → IsIn (places syms xs) k → is_some_line (line_at syms xs k) ≡ true
       → IsIn (map key listed.lines) k

@@ -3,7 +3,7 @@ use Rattle.std.proofs.Common.{◌≡◌, ◌<◌, ℕ, zero, suc, Bool, true, fa
 use Rattle.std.proofs.Common.{[], ◌∷◌, length, get_or, Option, None, Some, position}
 use Rattle.std.proofs.Common.{refl, sym, subst, ◌∙◌, arith, if◌then◌else◌}
 use Rattle.event_costs.specs.declared.numbers.ThreadNo.{ThreadNo}
-use Rattle.recorder.specs.Accounts.{IsReady, is_of, knows, Recording}
+use Rattle.recorder.specs.Accounts.{IsReady, is_ledger_of, knows, Recording}
 use Rattle.recorder.specs.declared.recorder.ReadyThread.{ReadyThread}
 use Rattle.recorder.specs.inner.Places.{IsRemembered}
 
@@ -13,20 +13,20 @@ one_element (z ∷ xs) zero x y less = refl
 one_element (z ∷ xs) (suc i) x y less = one_element xs i x y (omega (arith, less))
 
 still_remembered : (r s : Recording) (ready : Option ReadyThread)
-    → ((o : ThreadNo) → position (is_of o) s.threads ≡ position (is_of o) r.threads)
+    → ((o : ThreadNo) → position (is_ledger_of o) s.threads ≡ position (is_ledger_of o) r.threads)
     → ((o : ThreadNo) → knows s o ≡ knows r o) → ((o : ThreadNo) → IsReady r o → IsReady s o) → IsRemembered r ready
     → IsRemembered s ready
 still_remembered r s None places known lasting is = tt
 still_remembered r s (Some it) places known lasting is = record {
   at = places it.thread ∙ is.at;
-  known = known it.thread ∙ is.known;
+  is_known = known it.thread ∙ is.is_known;
   ready = lasting it.thread is.ready;
 }
 
 -- what is remembered after an event, which keeps what was remembered where it is plain
 pub remembered_after : (r s : Recording) (plain : Bool) (old new : Option ReadyThread)
     → new ≡ (if plain then old else None)
-    → ((o : ThreadNo) → position (is_of o) s.threads ≡ position (is_of o) r.threads)
+    → ((o : ThreadNo) → position (is_ledger_of o) s.threads ≡ position (is_ledger_of o) r.threads)
     → ((o : ThreadNo) → knows s o ≡ knows r o)
     → (plain ≡ true → (o : ThreadNo) → IsReady r o → IsReady s o) → IsRemembered r old → IsRemembered s new
 remembered_after r s true old new is places known lasting before =

@@ -14,56 +14,56 @@ use Rattle.std.proofs.lemmas.List.Folds.{list_any-append, position_or_len-set}
 use Rattle.std.proofs.lemmas.List.Quantifiers.{position-Some}
 use Rattle.std.proofs.lemmas.List.Sums.{sum_by-set}
 use Rattle.event_costs.specs.declared.numbers.ThreadNo.{ThreadNo}
-use Rattle.recorder.specs.Accounts.{IsReady, is_of, kept, kept_in, Kept, knows, live, live_in, nobody, Recording}
-use Rattle.recorder.specs.inner.Places.{IsAt, kept_at}
+use Rattle.recorder.specs.Accounts.{IsReady, is_ledger_of, ledger, ledger_in, Ledger, knows, live, live_in, nobody, Recording}
+use Rattle.recorder.specs.inner.Places.{IsAt, ledger_at}
 
 pub same_thread : (a b : ThreadNo) → a.0 ≡ b.0 → a ≡ b
 same_thread a b is = λ i. record { 0 = is i }
 
-first_in : (t : ThreadNo) (ks : List Kept) (i : ℕ) → i < length ks → is_of t (get_or ks i (nobody t)) ≡ true
-    → ((k : ℕ) → k < i → is_of t (get_or ks k (nobody t)) ≡ false) → kept_in t ks ≡ get_or ks i (nobody t)
+first_in : (t : ThreadNo) (ks : List Ledger) (i : ℕ) → i < length ks → is_ledger_of t (get_or ks i (nobody t)) ≡ true
+    → ((k : ℕ) → k < i → is_ledger_of t (get_or ks k (nobody t)) ≡ false) → ledger_in t ks ≡ get_or ks i (nobody t)
 first_in t [] i less here before = absurd (omega (arith, less))
-first_in t (k ∷ ks) zero less here before = ap (λ b. cond b k (kept_in t ks)) here
+first_in t (k ∷ ks) zero less here before = ap (λ b. cond b k (ledger_in t ks)) here
 first_in t (k ∷ ks) (suc i) less here before =
-    ap (λ b. cond b k (kept_in t ks)) (before 0 (omega arith))
+    ap (λ b. cond b k (ledger_in t ks)) (before 0 (omega arith))
     ∙ first_in t ks i (omega (arith, less)) here (λ j lt. before (suc j) (omega (arith, lt)))
 
-first_after : (t : ThreadNo) (ks : List Kept) (i : ℕ) (new : Kept) → i < length ks → is_of t new ≡ true
-    → ((k : ℕ) → k < i → is_of t (get_or ks k (nobody t)) ≡ false) → kept_in t (set ks i new) ≡ new
+first_after : (t : ThreadNo) (ks : List Ledger) (i : ℕ) (new : Ledger) → i < length ks → is_ledger_of t new ≡ true
+    → ((k : ℕ) → k < i → is_ledger_of t (get_or ks k (nobody t)) ≡ false) → ledger_in t (set ks i new) ≡ new
 first_after t [] i new less here before = absurd (omega (arith, less))
-first_after t (k ∷ ks) zero new less here before = ap (λ b. cond b new (kept_in t ks)) here
+first_after t (k ∷ ks) zero new less here before = ap (λ b. cond b new (ledger_in t ks)) here
 first_after t (k ∷ ks) (suc i) new less here before =
-    ap (λ b. cond b k (kept_in t (set ks i new))) (before 0 (omega arith))
+    ap (λ b. cond b k (ledger_in t (set ks i new))) (before 0 (omega arith))
     ∙ first_after t ks i new (omega (arith, less)) here (λ j lt. before (suc j) (omega (arith, lt)))
 
 -- what is kept of the thread at a place
-pub kept_there : (r : Recording) (t : ThreadNo) (i : ℕ) → IsAt r t i → kept r t ≡ kept_at r i t
-kept_there r t i at = let found = position-Some (is_of t) r.threads i (nobody t) at in
+pub ledger_there : (r : Recording) (t : ThreadNo) (i : ℕ) → IsAt r t i → ledger r t ≡ ledger_at r i t
+ledger_there r t i at = let found = position-Some (is_ledger_of t) r.threads i (nobody t) at in
     first_in t r.threads i found.0 found.1 found.2
 
 pub place_within : (r : Recording) (t : ThreadNo) (i : ℕ) → IsAt r t i → i < length r.threads
-place_within r t i at = (position-Some (is_of t) r.threads i (nobody t) at).0
+place_within r t i at = (position-Some (is_ledger_of t) r.threads i (nobody t) at).0
 
-pub thread_there : (r : Recording) (t : ThreadNo) (i : ℕ) → IsAt r t i → (kept_at r i t).account.thread ≡ t
+pub thread_there : (r : Recording) (t : ThreadNo) (i : ℕ) → IsAt r t i → (ledger_at r i t).account.thread ≡ t
 thread_there r t i at =
-    let found = position-Some (is_of t) r.threads i (nobody t) at in
-    same_thread (kept_at r i t).account.thread t (let is = found.1 in grind (arith, nat_tests))
+    let found = position-Some (is_ledger_of t) r.threads i (nobody t) at in
+    same_thread (ledger_at r i t).account.thread t (let is = found.1 in grind (arith, nat_tests))
 
 -- one thread's account is replaced
-pub kept_now : (r s : Recording) (t : ThreadNo) (i : ℕ) (new : Kept) → IsAt r t i → new.account.thread ≡ t
-    → s.threads ≡ set r.threads i new → kept s t ≡ new
-kept_now r s t i new at is same =
-    let found = position-Some (is_of t) r.threads i (nobody t) at in
-    ap (kept_in t) same
+pub ledger_now : (r s : Recording) (t : ThreadNo) (i : ℕ) (new : Ledger) → IsAt r t i → new.account.thread ≡ t
+    → s.threads ≡ set r.threads i new → ledger s t ≡ new
+ledger_now r s t i new at is same =
+    let found = position-Some (is_ledger_of t) r.threads i (nobody t) at in
+    ap (ledger_in t) same
     ∙ first_after t r.threads i new found.0 (ap (λ (u : ThreadNo). t.0 == u.0) is ∙ eq-eqb t.0 t.0 refl) found.2
 
-other_after : (o : ThreadNo) (ks : List Kept) (i : ℕ) (new d : Kept) → i < length ks → is_of o (get_or ks i d) ≡ false
-    → is_of o new ≡ false → kept_in o (set ks i new) ≡ kept_in o ks
+other_after : (o : ThreadNo) (ks : List Ledger) (i : ℕ) (new d : Ledger) → i < length ks → is_ledger_of o (get_or ks i d) ≡ false
+    → is_ledger_of o new ≡ false → ledger_in o (set ks i new) ≡ ledger_in o ks
 other_after o [] i new d less was now = absurd (omega (arith, less))
-other_after o (k ∷ ks) zero new d less was now = ap (λ b. cond b new (kept_in o ks)) now
-    ∙ sym (ap (λ b. cond b k (kept_in o ks)) was)
+other_after o (k ∷ ks) zero new d less was now = ap (λ b. cond b new (ledger_in o ks)) now
+    ∙ sym (ap (λ b. cond b k (ledger_in o ks)) was)
 other_after o (k ∷ ks) (suc i) new d less was now =
-    ap (λ (m : Kept). cond (is_of o k) k m) (other_after o ks i new d (omega (arith, less)) was now)
+    ap (λ (m : Ledger). cond (is_ledger_of o k) k m) (other_after o ks i new d (omega (arith, less)) was now)
 
 differs : (o t u : ThreadNo) → u ≡ t → o.0 ≢ t.0 → o.0 == u.0 ≡ false
 differs o t u is other = by (eqb_tells o.0 u.0)
@@ -72,13 +72,13 @@ differs o t u is other = by (eqb_tells o.0 u.0)
     by (inl same) = absurd (other (same.1 ∙ ap (λ (v : ThreadNo). v.0) is))
     by (inr apart) = apart.0
 
-pub kept_others : (r s : Recording) (t : ThreadNo) (i : ℕ) (new : Kept) → IsAt r t i → new.account.thread ≡ t
+pub ledger_others : (r s : Recording) (t : ThreadNo) (i : ℕ) (new : Ledger) → IsAt r t i → new.account.thread ≡ t
     → s.threads ≡ set r.threads i new
-    → (o : ThreadNo) → o.0 ≢ t.0 → kept s o ≡ kept r o
-kept_others r s t i new at is same o other =
-    ap (kept_in o) same
+    → (o : ThreadNo) → o.0 ≢ t.0 → ledger s o ≡ ledger r o
+ledger_others r s t i new at is same o other =
+    ap (ledger_in o) same
     ∙ other_after o r.threads i new (nobody t) (place_within r t i at)
-    (differs o t (kept_at r i t).account.thread (thread_there r t i at) other)
+    (differs o t (ledger_at r i t).account.thread (thread_there r t i at) other)
     (differs o t new.account.thread is other)
 
 any_set : {X : Type 0} (p : X → Bool) (xs : List X) (i : ℕ) (y d : X) → i < length xs → p y ≡ p (get_or xs i d)
@@ -87,65 +87,65 @@ any_set p [] i y d less same = absurd (omega (arith, less))
 any_set p (x ∷ xs) zero y d less same = ap (λ b. b || list_any p xs) same
 any_set p (x ∷ xs) (suc i) y d less same = ap (λ b. p x || b) (any_set p xs i y d (omega (arith, less)) same)
 
-pub knows_same : (r s : Recording) (t : ThreadNo) (i : ℕ) (new : Kept) → IsAt r t i → new.account.thread ≡ t
+pub knows_same : (r s : Recording) (t : ThreadNo) (i : ℕ) (new : Ledger) → IsAt r t i → new.account.thread ≡ t
     → s.threads ≡ set r.threads i new → (o : ThreadNo) → knows s o ≡ knows r o
 knows_same r s t i new at is same o =
-    ap (list_any (is_of o)) same
-    ∙ any_set (is_of o) r.threads i new (nobody t) (place_within r t i at)
+    ap (list_any (is_ledger_of o)) same
+    ∙ any_set (is_ledger_of o) r.threads i new (nobody t) (place_within r t i at)
     (ap (λ (u : ThreadNo). o.0 == u.0) (is ∙ sym (thread_there r t i at)))
 
 abbrev place_from : ℕ → ℕ → Option ℕ
 place_from n len = cond (nat_lt n len) (Some n) None
 
-places_same : (r s : Recording) (t : ThreadNo) (i : ℕ) (new : Kept) → IsAt r t i → new.account.thread ≡ t
-    → s.threads ≡ set r.threads i new → (o : ThreadNo) → position (is_of o) s.threads ≡ position (is_of o) r.threads
+places_same : (r s : Recording) (t : ThreadNo) (i : ℕ) (new : Ledger) → IsAt r t i → new.account.thread ≡ t
+    → s.threads ≡ set r.threads i new → (o : ThreadNo) → position (is_ledger_of o) s.threads ≡ position (is_ledger_of o) r.threads
 places_same r s t i new at is same o =
-    let first = position_or_len-set (is_of o) r.threads i new (nobody t)
+    let first = position_or_len-set (is_ledger_of o) r.threads i new (nobody t)
     (ap (λ (u : ThreadNo). o.0 == u.0) (is ∙ sym (thread_there r t i at))) in
-    ap (λ (ks : List Kept). position (is_of o) ks) same
+    ap (λ (ks : List Ledger). position (is_ledger_of o) ks) same
     ∙ (λ j. place_from (first j) (length-set r.threads i new j))
 
-nobody_in : (t : ThreadNo) (ks : List Kept) → list_any (is_of t) ks ≡ false → kept_in t ks ≡ nobody t
+nobody_in : (t : ThreadNo) (ks : List Ledger) → list_any (is_ledger_of t) ks ≡ false → ledger_in t ks ≡ nobody t
 nobody_in t [] none = refl
 nobody_in t (k ∷ ks) none =
-    let both = or_parts (is_of t k) (list_any (is_of t) ks) none in
-    ap (λ b. cond b k (kept_in t ks)) both.0 ∙ nobody_in t ks both.1
+    let both = or_parts (is_ledger_of t k) (list_any (is_ledger_of t) ks) none in
+    ap (λ b. cond b k (ledger_in t ks)) both.0 ∙ nobody_in t ks both.1
 
-pub kept_unknown : (r : Recording) (t : ThreadNo) → knows r t ≡ false → kept r t ≡ nobody t
-kept_unknown r t none = nobody_in t r.threads none
+pub ledger_unknown : (r : Recording) (t : ThreadNo) → knows r t ≡ false → ledger r t ≡ nobody t
+ledger_unknown r t none = nobody_in t r.threads none
 
 -- a thread more
-newest_in : (t : ThreadNo) (ks : List Kept) (new : Kept) → list_any (is_of t) ks ≡ false → is_of t new ≡ true
-    → kept_in t (ks ++ new ∷ []) ≡ new
+newest_in : (t : ThreadNo) (ks : List Ledger) (new : Ledger) → list_any (is_ledger_of t) ks ≡ false → is_ledger_of t new ≡ true
+    → ledger_in t (ks ++ new ∷ []) ≡ new
 newest_in t [] new none is = ap (λ b. cond b new (nobody t)) is
 newest_in t (k ∷ ks) new none is =
-    let both = or_parts (is_of t k) (list_any (is_of t) ks) none in
-    ap (λ b. cond b k (kept_in t (ks ++ new ∷ []))) both.0 ∙ newest_in t ks new both.1 is
+    let both = or_parts (is_ledger_of t k) (list_any (is_ledger_of t) ks) none in
+    ap (λ b. cond b k (ledger_in t (ks ++ new ∷ []))) both.0 ∙ newest_in t ks new both.1 is
 
-other_in : (o : ThreadNo) (ks : List Kept) (new : Kept) → is_of o new ≡ false
-    → kept_in o (ks ++ new ∷ []) ≡ kept_in o ks
+other_in : (o : ThreadNo) (ks : List Ledger) (new : Ledger) → is_ledger_of o new ≡ false
+    → ledger_in o (ks ++ new ∷ []) ≡ ledger_in o ks
 other_in o [] new is = ap (λ b. cond b new (nobody o)) is
-other_in o (k ∷ ks) new is = ap (λ (m : Kept). cond (is_of o k) k m) (other_in o ks new is)
+other_in o (k ∷ ks) new is = ap (λ (m : Ledger). cond (is_ledger_of o k) k m) (other_in o ks new is)
 
-pub kept_newest : (r s : Recording) (t : ThreadNo) (new : Kept) → knows r t ≡ false → new.account.thread ≡ t
-    → s.threads ≡ r.threads ++ new ∷ [] → kept s t ≡ new
-kept_newest r s t new none is same = ap (kept_in t) same
+pub ledger_newest : (r s : Recording) (t : ThreadNo) (new : Ledger) → knows r t ≡ false → new.account.thread ≡ t
+    → s.threads ≡ r.threads ++ new ∷ [] → ledger s t ≡ new
+ledger_newest r s t new none is same = ap (ledger_in t) same
     ∙ newest_in t r.threads new none (ap (λ (u : ThreadNo). t.0 == u.0) is ∙ eq-eqb t.0 t.0 refl)
 
-pub kept_older : (r s : Recording) (t : ThreadNo) (new : Kept) → new.account.thread ≡ t
-    → s.threads ≡ r.threads ++ new ∷ [] → (o : ThreadNo) → o.0 ≢ t.0 → kept s o ≡ kept r o
-kept_older r s t new is same o other = ap (kept_in o) same
+pub ledger_older : (r s : Recording) (t : ThreadNo) (new : Ledger) → new.account.thread ≡ t
+    → s.threads ≡ r.threads ++ new ∷ [] → (o : ThreadNo) → o.0 ≢ t.0 → ledger s o ≡ ledger r o
+ledger_older r s t new is same o other = ap (ledger_in o) same
     ∙ other_in o r.threads new (differs o t new.account.thread is other)
 
 or_false_last : (b : Bool) → b || false ≡ b
 or_false_last true = refl
 or_false_last false = refl
 
-pub knows_newest : (r s : Recording) (t : ThreadNo) (new : Kept) → new.account.thread ≡ t
+pub knows_newest : (r s : Recording) (t : ThreadNo) (new : Ledger) → new.account.thread ≡ t
     → s.threads ≡ r.threads ++ new ∷ [] → (o : ThreadNo) → knows s o ≡ knows r o || o.0 == t.0
 knows_newest r s t new is same o =
-    ap (list_any (is_of o)) same ∙ list_any-append (is_of o) r.threads (new ∷ [])
-    ∙ ap (λ b. list_any (is_of o) r.threads || b) (or_false_last (is_of o new) ∙ ap (λ (u : ThreadNo). o.0 == u.0) is)
+    ap (list_any (is_ledger_of o)) same ∙ list_any-append (is_ledger_of o) r.threads (new ∷ [])
+    ∙ ap (λ b. list_any (is_ledger_of o) r.threads || b) (or_false_last (is_ledger_of o new) ∙ ap (λ (u : ThreadNo). o.0 == u.0) is)
 
 -- places of mapped lists
 prefix_map : {X Y : Type 0} (p : Y → Bool) (f : X → Y) (xs : List X)
@@ -163,44 +163,44 @@ any-map p f [] = refl
 any-map p f (x ∷ xs) = ap (λ b. p (f x) || b) (any-map p f xs)
 
 -- One thread's account is replaced, at its place.
-pub record IsUpdated (r s : Recording) (t : ThreadNo) (i : ℕ) (new : Kept) : Type 0 where
+pub record IsUpdated (r s : Recording) (t : ThreadNo) (i : ℕ) (new : Ledger) : Type 0 where
   pub at : IsAt r t i
   pub thread : new.account.thread ≡ t
   pub threads : s.threads ≡ set r.threads i new
 
-module _ (r s : Recording) (t : ThreadNo) (i : ℕ) (new : Kept) (updated : IsUpdated r s t i new) where
-  pub own_kept : kept s t ≡ new
-  own_kept = kept_now r s t i new updated.at updated.thread updated.threads
+module _ (r s : Recording) (t : ThreadNo) (i : ℕ) (new : Ledger) (updated : IsUpdated r s t i new) where
+  pub ledger_is_new : ledger s t ≡ new
+  ledger_is_new = ledger_now r s t i new updated.at updated.thread updated.threads
 
-  pub others_kept : (o : ThreadNo) → o.0 ≢ t.0 → kept s o ≡ kept r o
-  others_kept = kept_others r s t i new updated.at updated.thread updated.threads
+  pub others_kept : (o : ThreadNo) → o.0 ≢ t.0 → ledger s o ≡ ledger r o
+  others_kept = ledger_others r s t i new updated.at updated.thread updated.threads
 
   pub knows_kept : (o : ThreadNo) → knows s o ≡ knows r o
   knows_kept = knows_same r s t i new updated.at updated.thread updated.threads
 
-  pub places_kept : (o : ThreadNo) → position (is_of o) s.threads ≡ position (is_of o) r.threads
+  pub places_kept : (o : ThreadNo) → position (is_ledger_of o) s.threads ≡ position (is_ledger_of o) r.threads
   places_kept = places_same r s t i new updated.at updated.thread updated.threads
 
   abbrev Tells : ThreadNo → Type 0
   Tells o = ((o.0 == t.0 ≡ true) × (o.0 ≡ t.0)) ⊎ ((o.0 == t.0 ≡ false) × (o.0 ≢ t.0))
 
-  pub accounts_kept : new.account ≡ (kept r t).account → (o : ThreadNo) → (kept s o).account ≡ (kept r o).account
+  pub accounts_kept : new.account ≡ (ledger r t).account → (o : ThreadNo) → (ledger s o).account ≡ (ledger r o).account
   accounts_kept same o = by (eqb_tells o.0 t.0)
     where
-      by : Tells o → (kept s o).account ≡ (kept r o).account
-      by (inl is) = subst (λ (u : ThreadNo). (kept s u).account ≡ (kept r u).account) (sym (same_thread o t is.1))
-          (ap (λ (k : Kept). k.account) own_kept ∙ same)
-      by (inr differs_) = ap (λ (k : Kept). k.account) (others_kept o differs_.1)
+      by : Tells o → (ledger s o).account ≡ (ledger r o).account
+      by (inl is) = subst (λ (u : ThreadNo). (ledger s u).account ≡ (ledger r u).account) (sym (same_thread o t is.1))
+          (ap (λ (k : Ledger). k.account) ledger_is_new ∙ same)
+      by (inr differs_) = ap (λ (k : Ledger). k.account) (others_kept o differs_.1)
 
-  pub ready_kept : r.spare ≤ s.spare → (kept r t).line_room ≤ new.line_room → (kept r t).arc_room ≤ new.arc_room
+  pub ready_kept : r.spare ≤ s.spare → (ledger r t).line_room ≤ new.line_room → (ledger r t).arc_room ≤ new.arc_room
       → (o : ThreadNo) → IsReady r o → IsReady s o
   ready_kept frames_ lines arcs o was = by (eqb_tells o.0 t.0)
     where
       own_ready : IsReady r t → IsReady s t
       own_ready was_ = record {
         frames = omega (arith, frames_, was_.frames);
-        lines = omega (arith, lines, was_.lines, ap (λ (k : Kept). k.line_room) own_kept);
-        arcs = omega (arith, arcs, was_.arcs, ap (λ (k : Kept). k.arc_room) own_kept);
+        lines = omega (arith, lines, was_.lines, ap (λ (k : Ledger). k.line_room) ledger_is_new);
+        arcs = omega (arith, arcs, was_.arcs, ap (λ (k : Ledger). k.arc_room) ledger_is_new);
       }
 
       by : Tells o → IsReady s o
@@ -210,18 +210,18 @@ module _ (r s : Recording) (t : ThreadNo) (i : ℕ) (new : Kept) (updated : IsUp
           let same = others_kept o differs_.1 in
           record {
             frames = omega (arith, frames_, was.frames);
-            lines = omega (arith, was.lines, ap (λ (k : Kept). k.line_room) same);
-            arcs = omega (arith, was.arcs, ap (λ (k : Kept). k.arc_room) same);
+            lines = omega (arith, was.lines, ap (λ (k : Ledger). k.line_room) same);
+            arcs = omega (arith, was.arcs, ap (λ (k : Ledger). k.arc_room) same);
           }
 
   -- the live frames change by those of the thread
-  pub live_kept : live s + live_in (kept r t).account.frames ≡ live r + live_in (kept s t).account.frames
+  pub live_kept : live s + live_in (ledger r t).account.frames ≡ live r + live_in (ledger s t).account.frames
   live_kept =
       let within = place_within r t i updated.at in
-      let all = sum_by-set (λ (k : Kept). live_in k.account.frames) r.threads i new (nobody t) within in
-      let now = ap (sum_by (λ (k : Kept). live_in k.account.frames)) updated.threads in
-      let here = ap (λ (k : Kept). live_in k.account.frames) (kept_there r t i updated.at) in
-      let there = ap (λ (k : Kept). live_in k.account.frames) own_kept in
+      let all = sum_by-set (λ (k : Ledger). live_in k.account.frames) r.threads i new (nobody t) within in
+      let now = ap (sum_by (λ (k : Ledger). live_in k.account.frames)) updated.threads in
+      let here = ap (λ (k : Ledger). live_in k.account.frames) (ledger_there r t i updated.at) in
+      let there = ap (λ (k : Ledger). live_in k.account.frames) ledger_is_new in
       omega (arith, all, now, here, there)
 
 -- a key that is there needs no room

@@ -24,7 +24,7 @@ use Rattle.arc_costs.specs.Keys.{by_kind}
 use Rattle.arc_costs.proofs.KindLemmas.{by_kind_all}
 use Rattle.arc_costs.proofs.RiseLemmas as rise
 use Rattle.sym_map.specs.SymbolMap.{SymbolMap, place_of}
-use Rattle.shadow_stack.specs.Traces.{Seen}
+use Rattle.shadow_stack.specs.Traces.{EventOnStack}
 use Rattle.recorder.specs.Laws.{IsIn}
 use Rattle.recorder.specs.Standing.{AreRowsOf}
 use Rattle.recorder.specs.Sums.{arc_calls, arc_cost, entered_by, self_cost}
@@ -114,11 +114,11 @@ module _ {Row K : Type 0} (key : Row → K) (same : K → K → Bool) (R : K →
 -- ---- the rows of events
 
 -- each cost has a number for each kind of event
-abbrev pub AreWholeCosts : List Seen → Type 0
-AreWholeCosts xs = (x : Seen) → IsIn xs x → length x.cost ≡ event_kinds
+abbrev pub AreWholeCosts : List EventOnStack → Type 0
+AreWholeCosts xs = (x : EventOnStack) → IsIn xs x → length x.cost ≡ event_kinds
 
-module _ (syms : SymbolMap) (xs : List Seen) (whole : AreWholeCosts xs) where
-  past_kinds : (kind : ℕ) → event_kinds ≤ kind → (x : Seen) → IsIn xs x → get_or x.cost kind 0 ≡ 0
+module _ (syms : SymbolMap) (xs : List EventOnStack) (whole : AreWholeCosts xs) where
+  past_kinds : (kind : ℕ) → event_kinds ≤ kind → (x : EventOnStack) → IsIn xs x → get_or x.cost kind 0 ≡ 0
   past_kinds kind past x there =
       let long = whole x there in get_or_past x.cost kind 0 (omega (arith, past, long))
 
@@ -140,7 +140,7 @@ module _ (syms : SymbolMap) (xs : List Seen) (whole : AreWholeCosts xs) where
       rise.in_risen place_order place_total place_only (map (λ x. place_of syms x.event.done.pc) xs) place
       (subst (IsIn (map (λ x. place_of syms x.event.done.pc) xs))
       (sym (place_alike place (place_of syms event.0.event.done.pc) event.2))
-      (rise.in-map (λ (x : Seen). place_of syms x.event.done.pc) xs event.0 event.1))
+      (rise.in-map (λ (x : EventOnStack). place_of syms x.event.done.pc) xs event.0 event.1))
 
   places_rise : rise.Rises place_order place_total place_only (places syms xs)
   places_rise = rise.risen_rises place_order place_total place_only (map (λ x. place_of syms x.event.done.pc) xs)
@@ -221,18 +221,18 @@ module _ (syms : SymbolMap) (xs : List Seen) (whole : AreWholeCosts xs) where
   }
 
 -- where each cost is whole
-pub all_sum_up : (syms : SymbolMap) (xs : List Seen) → All (λ x. IsWhole x.cost) xs
+pub all_sum_up : (syms : SymbolMap) (xs : List EventOnStack) → All (λ x. IsWhole x.cost) xs
     → AreRowsOf syms xs (rows_of syms xs)
 all_sum_up syms xs whole =
     rows_sum_up syms xs
-    (of_all (λ (x : Seen). length x.cost ≡ event_kinds) xs
-    (recursion_from_All (λ (x : Seen). length x.cost ≡ event_kinds) xs whole))
+    (of_all (λ (x : EventOnStack). length x.cost ≡ event_kinds) xs
+    (recursion_from_All (λ (x : EventOnStack). length x.cost ≡ event_kinds) xs whole))
 
 -- each row has a number for each kind of event
 whole_cost : (f : ℕ → ℕ) → length (by_kind f) ≡ event_kinds
 whole_cost f = length-map-range_with_len f 0 event_kinds
 
-pub whole_lines : (syms : SymbolMap) (xs : List Seen) → All (λ row. IsWhole row.cost) (rows_of syms xs).lines
+pub whole_lines : (syms : SymbolMap) (xs : List EventOnStack) → All (λ row. IsWhole row.cost) (rows_of syms xs).lines
 unfolding rows_of
 whole_lines syms xs =
     let rows = filter is_some_line (map (line_at syms xs) (places syms xs)) in
@@ -242,7 +242,7 @@ whole_lines syms xs =
     (in_filter is_some_line (map (line_at syms xs) (places syms xs)) r there).0 in
     subst (λ (q : LineRow). IsWhole q.cost) found.2 (whole_cost (λ kind. self_cost syms kind found.0 xs)))))
 
-pub whole_arcs : (syms : SymbolMap) (xs : List Seen) → All (λ row. IsWhole row.cost) (rows_of syms xs).arcs
+pub whole_arcs : (syms : SymbolMap) (xs : List EventOnStack) → All (λ row. IsWhole row.cost) (rows_of syms xs).arcs
 unfolding rows_of
 whole_arcs syms xs =
     let rows = filter is_some_arc (map (arc_at syms xs) (arcs syms xs)) in

@@ -6,7 +6,7 @@ use Rattle.event_costs.specs.declared.event.Event.{Event}
 use Rattle.event_costs.specs.declared.event.Flow.{Flow}
 use Rattle.event_costs.specs.declared.event.Flow.TheVariants.{Call, Jump, Swap, Plain}
 use Rattle.sym_map.specs.SymbolMap.{SymbolMap}
-use Rattle.shadow_stack.specs.Changes.{Change, after, change, change_by, cut, down_to, entered, next_func, settle_on}
+use Rattle.shadow_stack.specs.Changes.{Change, after, change, change_by, cut, down_to, new_activation, next_func, settle_on}
 use Rattle.shadow_stack.specs.Changes.{with_pushed}
 use Rattle.shadow_stack.specs.Kinds.{is_root}
 use Rattle.shadow_stack.specs.Stacks.{Activation, Stack, root}
@@ -24,7 +24,7 @@ module _ (syms : SymbolMap) where
   abbrev Pushes : Event → Change → Type 0
   Pushes e c =
       (c.pushed ≡ None)
-      ⊎ ((kind : Kind) × (is_root kind ≡ false) × (c.pushed ≡ Some (entered syms e kind c.kept)))
+      ⊎ ((kind : Kind) × (is_root kind ≡ false) × (c.pushed ≡ Some (new_activation syms e kind c.rest)))
 
   settled : (e : Event) (s : Stack) (o : Option Stack) → Pushes e (settle_on syms e s o)
   settled e s None = inr (_, refl, refl)
@@ -39,12 +39,12 @@ module _ (syms : SymbolMap) where
   pushes : (e : Event) (s : Stack) → Pushes e (change syms e s)
   pushes e s = by e.ends
     where
-      by : (b : Bool) → Pushes e (if b then record { kept = []; pushed = None } else change_by syms e s e.done.flow)
+      by : (b : Bool) → Pushes e (if b then record { rest = []; pushed = None } else change_by syms e s e.done.flow)
       by true = inl refl
       by false = by_flow e s e.done.flow
 
   module _ (P : Activation → Type 0) (begins : (pc : ℕ) → Each P (root syms pc))
-      (enters : (e : Event) (kind : Kind) (s : Stack) → is_root kind ≡ false → Each P s → P (entered syms e kind s))
+      (enters : (e : Event) (kind : Kind) (s : Stack) → is_root kind ≡ false → Each P s → P (new_activation syms e kind s))
     where
       kept_each : (kept s : Stack) → IsEnd kept s → Each P s → Each P kept
       kept_each kept s e all a there =
@@ -53,12 +53,12 @@ module _ (syms : SymbolMap) where
       pub pushed_each : (e : Event) (s : Stack) → Each P s → (a : Activation)
           → IsIn (option_to_list (change syms e s).pushed) a → P a
       pushed_each e s all a there =
-          let kept = kept_each (change syms e s).kept s (change-end syms e s) all in
+          let kept = kept_each (change syms e s).rest s (change-end syms e s) all in
           elim (pushes e s) as (λ _. P a) [
             | inl none ↦ elim (subst (λ o. IsIn (option_to_list o) a) none there) [ ]
             | inr some ↦
                 elim (subst (λ o. IsIn (option_to_list o) a) some.2 there) as (λ _. P a) [
-                  | inl is ↦ subst P is (enters e some.0 (change syms e s).kept some.1 kept)
+                  | inl is ↦ subst P is (enters e some.0 (change syms e s).rest some.1 kept)
                   | inr none ↦ elim none [ ]
                 ]
           ]
@@ -67,11 +67,11 @@ module _ (syms : SymbolMap) where
       after_each e s all = by (change syms e s).pushed (pushed_each e s all)
         where
           by : (o : Option Activation) → ((a : Activation) → IsIn (option_to_list o) a → P a)
-              → Each P (with_pushed o (change syms e s).kept)
-          by None each = kept_each (change syms e s).kept s (change-end syms e s) all
+              → Each P (with_pushed o (change syms e s).rest)
+          by None each = kept_each (change syms e s).rest s (change-end syms e s) all
           by (Some b) each = λ a there. elim there as (λ _. P a) [
             | inl is ↦ each a (inl is)
-            | inr kept ↦ kept_each (change syms e s).kept s (change-end syms e s) all a kept
+            | inr kept ↦ kept_each (change syms e s).rest s (change-end syms e s) all a kept
           ]
 
       folded : (es : List Event) (s : Stack) → Each P s → Each P (stack_after syms s es)

@@ -11,9 +11,9 @@ use Rattle.arc_costs.proofs.RowLemmas.{zero_replicate}
 use Rattle.event_costs.specs.declared.event.Event.{Event}
 use Rattle.sym_map.specs.SymbolMap.{SymbolMap, place_of}
 use Rattle.shadow_stack.specs.Changes.{after, change}
-use Rattle.shadow_stack.specs.Frames.{pushed, restarted, stack}
+use Rattle.shadow_stack.specs.Frames.{pushed_activation, restarted_frames, stack}
 use Rattle.shadow_stack.specs.Stacks.{root, Stack}
-use Rattle.shadow_stack.specs.Traces.{Counted, Seen, stack_after}
+use Rattle.shadow_stack.specs.Traces.{CountedEvent, EventOnStack, stack_after}
 use Rattle.shadow_stack.specs.declared.frame.Frame.{Frame}
 use Rattle.shadow_stack.proofs.FrameLemmas.{stack-frames_after}
 use Rattle.shadow_stack.proofs.RestartLemmas.{stack-restarted}
@@ -25,8 +25,8 @@ use Rattle.arc_costs.specs.Rows.{LineRow}
 use Rattle.arc_costs.proofs.ArcLemmas as arcs
 use Rattle.arc_costs.proofs.LineLemmas as lines
 use Rattle.recorder.specs.Accounts.{Account}
-use Rattle.recorder.specs.Notes.{cut_off, noted, open_sum, started}
-use Rattle.recorder.specs.Standing.{AreRowsOf, has_some, IsCutOf, last_seen, own_seen, own_stack, SameSums, Stands}
+use Rattle.recorder.specs.Notes.{account_after_cut, account_after_note, open_sum, first_account}
+use Rattle.recorder.specs.Standing.{AreRowsOf, has_some, IsCutOf, last_events_on_stack, events_on_stack, stack_after_events, SameSums, Stands}
 use Rattle.recorder.specs.Standing.{StandsFor}
 use Rattle.recorder.specs.Sums.{entered_by, pushes}
 use Rattle.recorder.specs.inner.Books.{Adds, AreRowsIn, Gives}
@@ -41,8 +41,8 @@ module _ {X : Type 0} (f : X → ℕ) (xs : List X) (x : X) where
   pub one_more_sum : sum_by f (xs ++ x ∷ []) ≡ sum_by f xs + f x
   one_more_sum = let all = sum_by-append f xs (x ∷ []) in let one = sum_by-cons f x [] in omega (arith, all, one)
 
-pub stands_more : (syms : SymbolMap) (e : Event) (cost : List ℕ) (old new : Account) (s : Stack) (since : List Seen)
-    → new ≡ noted syms e cost old → Adds syms e cost old new → Stands syms s since old
+pub stands_more : (syms : SymbolMap) (e : Event) (cost : List ℕ) (old new : Account) (s : Stack) (since : List EventOnStack)
+    → new ≡ account_after_note syms e cost old → Adds syms e cost old new → Stands syms s since old
     → Stands syms (after syms s e) (since ++ record { event = e; cost = cost; stack = s } ∷ []) new
 stands_more syms e cost old new s since is adds stands = record {
   stack = ap (λ (a : Account). stack a.frames) is ∙ stack-frames_after syms (sum_of_costs old.total cost) old.frames e
@@ -50,19 +50,19 @@ stands_more syms e cost old new s since is adds stands = record {
   lines = λ kind place.
       let more =
       one_more_sum
-      (λ (x : Seen). if same_place place (place_of syms x.event.done.pc) then get_or x.cost kind 0 else 0) since
+      (λ (x : EventOnStack). if same_place place (place_of syms x.event.done.pc) then get_or x.cost kind 0 else 0) since
       (record { event = e; cost = cost; stack = s }) in
       omega (arith, adds.lines kind place, stands.lines kind place, more);
   arcs = λ kind arc.
-      let more = one_more_sum (λ (x : Seen). get_or x.cost kind 0 * entered_by arc x.stack) since
+      let more = one_more_sum (λ (x : EventOnStack). get_or x.cost kind 0 * entered_by arc x.stack) since
       (record { event = e; cost = cost; stack = s }) in
       let same : get_or cost kind 0 * entered_by arc (stack old.frames) ≡ get_or cost kind 0 * entered_by arc s
       = ap (λ (t : Stack). get_or cost kind 0 * entered_by arc t) stands.stack in
       omega (arith, adds.arcs kind arc, stands.arcs kind arc, more, same);
   calls = λ arc.
-      let more = one_more_sum (λ (x : Seen). pushes arc (change syms x.event x.stack).pushed) since
+      let more = one_more_sum (λ (x : EventOnStack). pushes arc (change syms x.event x.stack).pushed) since
       (record { event = e; cost = cost; stack = s }) in
-      let same : pushes arc (pushed syms e old.frames) ≡ pushes arc (change syms e s).pushed
+      let same : pushes arc (pushed_activation syms e old.frames) ≡ pushes arc (change syms e s).pushed
       = ap (λ (t : Stack). pushes arc (change syms e t).pushed) stands.stack in
       omega (arith, adds.calls arc, stands.calls arc, more, same);
   had_event = ap (λ (a : Account). a.had_event) is
@@ -70,45 +70,45 @@ stands_more syms e cost old new s since is adds stands = record {
 }
 
 -- the stacks of one thread's events
-pub own_stack-append : (syms : SymbolMap) (s : Stack) (xs ys : List Counted)
-    → own_stack syms s (xs ++ ys) ≡ own_stack syms (own_stack syms s xs) ys
-own_stack-append syms s xs ys =
-    ap (stack_after syms s) (map-append (λ (x : Counted). x.event) xs ys)
-    ∙ fold-append (after syms) s (map (λ (x : Counted). x.event) xs) (map (λ (x : Counted). x.event) ys)
+pub stack_after_events-append : (syms : SymbolMap) (s : Stack) (xs ys : List CountedEvent)
+    → stack_after_events syms s (xs ++ ys) ≡ stack_after_events syms (stack_after_events syms s xs) ys
+stack_after_events-append syms s xs ys =
+    ap (stack_after syms s) (map-append (λ (x : CountedEvent). x.event) xs ys)
+    ∙ fold-append (after syms) s (map (λ (x : CountedEvent). x.event) xs) (map (λ (x : CountedEvent). x.event) ys)
 
-pub own_seen-append : (syms : SymbolMap) (s : Stack) (xs ys : List Counted)
-    → own_seen syms s (xs ++ ys) ≡ own_seen syms s xs ++ own_seen syms (own_stack syms s xs) ys
-own_seen-append syms s [] ys = refl
-own_seen-append syms s (x ∷ xs) ys = ap (λ (zs : List Seen). record { event = x.event; cost = x.cost; stack = s } ∷ zs)
-    (own_seen-append syms (after syms s x.event) xs ys)
+pub events_on_stack-append : (syms : SymbolMap) (s : Stack) (xs ys : List CountedEvent)
+    → events_on_stack syms s (xs ++ ys) ≡ events_on_stack syms s xs ++ events_on_stack syms (stack_after_events syms s xs) ys
+events_on_stack-append syms s [] ys = refl
+events_on_stack-append syms s (x ∷ xs) ys = ap (λ (zs : List EventOnStack). record { event = x.event; cost = x.cost; stack = s } ∷ zs)
+    (events_on_stack-append syms (after syms s x.event) xs ys)
 
-abbrev joined : List (List Counted) → List Counted
+abbrev joined : List (List CountedEvent) → List CountedEvent
 joined pieces = flat_map (λ piece. piece) pieces
 
 pub stands_for_more : (syms : SymbolMap) (e : Event) (cost : List ℕ) (old new : Account) (s : Stack)
-    (earlier : List (List Counted)) (last : List Counted)
-    → new ≡ noted syms e cost old → Adds syms e cost old new → StandsFor syms s earlier last old
+    (earlier : List (List CountedEvent)) (last : List CountedEvent)
+    → new ≡ account_after_note syms e cost old → Adds syms e cost old new → StandsFor syms s earlier last old
     → StandsFor syms s earlier (last ++ record { event = e; cost = cost } ∷ []) new
 stands_for_more syms e cost old new s earlier last is adds stands =
-    let x : Counted = record { event = e; cost = cost } in
+    let x : CountedEvent = record { event = e; cost = cost } in
     let all = joined earlier in
-    let at = own_stack syms s (all ++ last) in
-    let later : own_stack syms s (all ++ (last ++ x ∷ [])) ≡ after syms at e
-    = ap (own_stack syms s) (sym (append_assoc all last (x ∷ []))) ∙ own_stack-append syms s (all ++ last) (x ∷ []) in
-    let seen_now : last_seen syms s earlier (last ++ x ∷ []) ≡ last_seen syms s earlier last ++ record {
+    let at = stack_after_events syms s (all ++ last) in
+    let later : stack_after_events syms s (all ++ (last ++ x ∷ [])) ≡ after syms at e
+    = ap (stack_after_events syms s) (sym (append_assoc all last (x ∷ []))) ∙ stack_after_events-append syms s (all ++ last) (x ∷ []) in
+    let seen_now : last_events_on_stack syms s earlier (last ++ x ∷ []) ≡ last_events_on_stack syms s earlier last ++ record {
       event = e;
       cost = cost;
       stack = at;
     } ∷ []
-    = own_seen-append syms (own_stack syms s all) last (x ∷ [])
-    ∙ ap (λ (t : Stack). last_seen syms s earlier last ++ record { event = e; cost = cost; stack = t } ∷ [])
-    (sym (own_stack-append syms s all last)) in
-    let more = stands_more syms e cost old new at (last_seen syms s earlier last) is adds stands.since in
+    = events_on_stack-append syms (stack_after_events syms s all) last (x ∷ [])
+    ∙ ap (λ (t : Stack). last_events_on_stack syms s earlier last ++ record { event = e; cost = cost; stack = t } ∷ [])
+    (sym (stack_after_events-append syms s all last)) in
+    let more = stands_more syms e cost old new at (last_events_on_stack syms s earlier last) is adds stands.since in
     record {
-      since = subst (λ (t : Stack). Stands syms t (last_seen syms s earlier (last ++ x ∷ [])) new) (sym later)
-          (subst (λ (xs : List Seen). Stands syms (after syms at e) xs new) (sym seen_now) more);
+      since = subst (λ (t : Stack). Stands syms t (last_events_on_stack syms s earlier (last ++ x ∷ [])) new) (sym later)
+          (subst (λ (xs : List EventOnStack). Stands syms (after syms at e) xs new) (sym seen_now) more);
       total = λ kind.
-          let f : Counted → ℕ = λ y. get_or y.cost kind 0 in
+          let f : CountedEvent → ℕ = λ y. get_or y.cost kind 0 in
           let sums = one_more_sum f (all ++ last) x in
           let same : sum_by f (all ++ (last ++ x ∷ [])) ≡ sum_by f ((all ++ last) ++ x ∷ [])
           = ap (sum_by f) (sym (append_assoc all last (x ∷ []))) in
@@ -124,7 +124,7 @@ gives_same old new gives = record {
   arcs = λ kind arc.
       let none : open_sum kind new.total arc new.frames ≡ 0
       = ap (λ (fs : List Frame). open_sum kind new.total arc fs) gives.frames
-      ∙ ap (λ (total : List ℕ). open_sum kind total arc (restarted old.total old.frames)) gives.total
+      ∙ ap (λ (total : List ℕ). open_sum kind total arc (restarted_frames old.total old.frames)) gives.total
       ∙ open_sum-restarted kind old.total arc old.frames in
       omega (arith, none, gives.arcs kind arc);
   calls = gives.calls;
@@ -143,7 +143,7 @@ cut_rows old new rows gives in_them = record {
   some_arcs = in_them.some_arcs;
 }
 
-pub rows_stand : (syms : SymbolMap) (s : Stack) (since : List Seen) (old : Account) (rows : Listed) → IsCutOf old rows
+pub rows_stand : (syms : SymbolMap) (s : Stack) (since : List EventOnStack) (old : Account) (rows : Listed) → IsCutOf old rows
     → Stands syms s since old → AreRowsOf syms since rows
 rows_stand syms s since old rows cut stands = record {
   lines = λ kind place. cut.lines kind place ∙ stands.lines kind place;
@@ -155,7 +155,7 @@ rows_stand syms s since old rows cut stands = record {
   some_arcs = cut.some_arcs;
 }
 
-pub still_stands : (syms : SymbolMap) (s : Stack) (since : List Seen) (old new : Account) → SameSums old new
+pub still_stands : (syms : SymbolMap) (s : Stack) (since : List EventOnStack) (old new : Account) → SameSums old new
     → Stands syms s since old → Stands syms s since new
 still_stands syms s since old new same stands = record {
   stack = same.stack ∙ stands.stack;
@@ -165,17 +165,17 @@ still_stands syms s since old new same stands = record {
   had_event = same.had_event ∙ stands.had_event;
 }
 
-pub still_stands_for : (syms : SymbolMap) (s : Stack) (earlier : List (List Counted)) (last : List Counted)
+pub still_stands_for : (syms : SymbolMap) (s : Stack) (earlier : List (List CountedEvent)) (last : List CountedEvent)
     (old new : Account) → SameSums old new → StandsFor syms s earlier last old → StandsFor syms s earlier last new
 still_stands_for syms s earlier last old new same stands = record {
   since =
-      still_stands syms (own_stack syms s (joined earlier ++ last))
-      (last_seen syms s earlier last) old new same stands.since;
+      still_stands syms (stack_after_events syms s (joined earlier ++ last))
+      (last_events_on_stack syms s earlier last) old new same stands.since;
   total = λ kind. ap (λ (total : List ℕ). get_or total kind 0) same.total ∙ stands.total kind;
 }
 
 -- an account that was cut off stands for nothing since
-pub stands_cut : (syms : SymbolMap) (s : Stack) (old : Account) → stack old.frames ≡ s → Stands syms s [] (cut_off old)
+pub stands_cut : (syms : SymbolMap) (s : Stack) (old : Account) → stack old.frames ≡ s → Stands syms s [] (account_after_cut old)
 stands_cut syms s old is =
     let none = arcs.none_stand old.arcs in
     record {
@@ -186,24 +186,24 @@ stands_cut syms s old is =
       had_event = refl;
     }
 
-pub stands_for_cut : (syms : SymbolMap) (s : Stack) (earlier : List (List Counted)) (last : List Counted)
-    (old new : Account) → new ≡ cut_off old → StandsFor syms s earlier last old
+pub stands_for_cut : (syms : SymbolMap) (s : Stack) (earlier : List (List CountedEvent)) (last : List CountedEvent)
+    (old new : Account) → new ≡ account_after_cut old → StandsFor syms s earlier last old
     → StandsFor syms s (earlier ++ last ∷ []) [] new
 stands_for_cut syms s earlier last old new is stands =
     let same : joined (earlier ++ last ∷ []) ++ [] ≡ joined earlier ++ last
     = append-nil (joined (earlier ++ last ∷ [])) ∙ flat_map-append (λ piece. piece) earlier (last ∷ [])
-    ∙ ap (λ (xs : List Counted). joined earlier ++ xs) (append-nil last) in
+    ∙ ap (λ (xs : List CountedEvent). joined earlier ++ xs) (append-nil last) in
     subst (λ (a : Account). StandsFor syms s (earlier ++ last ∷ []) [] a) (sym is)
     (record {
-      since = subst (λ (xs : List Counted). Stands syms (own_stack syms s xs) [] (cut_off old)) (sym same)
-          (stands_cut syms (own_stack syms s (joined earlier ++ last)) old stands.since.stack);
-      total = λ kind. stands.total kind ∙ ap (sum_by (λ (x : Counted). get_or x.cost kind 0)) (sym same);
+      since = subst (λ (xs : List CountedEvent). Stands syms (stack_after_events syms s xs) [] (account_after_cut old)) (sym same)
+          (stands_cut syms (stack_after_events syms s (joined earlier ++ last)) old stands.since.stack);
+      total = λ kind. stands.total kind ∙ ap (sum_by (λ (x : CountedEvent). get_or x.cost kind 0)) (sym same);
     })
 
 -- an account whose frames have given their cost, with its rows cleared
 pub cleared_account : (old mid new : Account) → Gives old mid → new.thread ≡ mid.thread → new.frames ≡ mid.frames
     → new.total ≡ mid.total → new.lines ≡ cleared_lines mid.lines → new.arcs ≡ cleared_arcs mid.arcs
-    → new.had_event ≡ false → new ≡ cut_off old
+    → new.had_event ≡ false → new ≡ account_after_cut old
 cleared_account old mid new gives thread frames_ total lines_ arcs_ had =
     let t = thread ∙ gives.thread in
     let f = frames_ ∙ gives.frames in
@@ -235,12 +235,12 @@ if_one (Ok u) a make = make a
 if_one (Err e) a make = tt
 
 -- the stack after all pieces
-abbrev pub all_stack : SymbolMap → Stack → List (List Counted) → List Counted → Stack
-all_stack syms s earlier last = own_stack syms s (joined earlier ++ last)
+abbrev pub all_stack : SymbolMap → Stack → List (List CountedEvent) → List CountedEvent → Stack
+all_stack syms s earlier last = stack_after_events syms s (joined earlier ++ last)
 
 -- a thread that begins
 pub stands_started : (syms : SymbolMap) (thread : ThreadNo) (pc : ℕ)
-    → StandsFor syms (root syms pc) [] [] (started syms thread pc)
+    → StandsFor syms (root syms pc) [] [] (first_account syms thread pc)
 stands_started syms thread pc = record {
   since = record {
     stack = refl;

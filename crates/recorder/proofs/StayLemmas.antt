@@ -14,7 +14,7 @@ use Rattle.event_costs.specs.Keys.{Place}
 use Rattle.sym_map.specs.SymbolMap.{SymbolMap}
 use Rattle.shadow_stack.specs.declared.frame.Frame.{Frame}
 use Rattle.shadow_stack.specs.Stacks.{Activation}
-use Rattle.shadow_stack.specs.Frames.{dropped, tellings}
+use Rattle.shadow_stack.specs.Frames.{dropped_frames, tellings}
 use Rattle.shadow_stack.proofs.StayLemmas.{Stays, none_gone, none_pushed, nothing_told}
 use Rattle.arc_costs.specs.Contents.{Contents}
 use Rattle.arc_costs.specs.Lines.{has_line, line, line_index}
@@ -22,20 +22,20 @@ use Rattle.event_costs.specs.Order.{same_place}
 use Rattle.arc_costs.specs.Rows.{LineRow}
 use Rattle.event_costs.specs.FuncSet.{is_among}
 use Rattle.recorder.specs.Notes.{noted_answer}
-use Rattle.recorder.specs.inner.Tellers.{RowsTold}
+use Rattle.recorder.specs.inner.Tellers.{RowsAfterTellings}
 use Rattle.recorder.proofs.TellingLemmas.{none_told}
 
 pub rows_untold : (syms : SymbolMap) (total : List ℕ) (e : Event) (fs : List Frame) (rows : Contents)
-    → Stays syms e fs → RowsTold rows (tellings syms total fs e) rows
+    → Stays syms e fs → RowsAfterTellings rows (tellings syms total fs e) rows
 rows_untold syms total e fs rows is =
-    subst (λ (ts : List Telling). RowsTold rows ts rows) (sym (nothing_told syms total e fs is)) (none_told rows)
+    subst (λ (ts : List Telling). RowsAfterTellings rows ts rows) (sym (nothing_told syms total e fs is)) (none_told rows)
 
 pub nothing_noted : (syms : SymbolMap) (watched : List FuncId) (e : Event) (fs : List Frame) → Stays syms e fs
     → record { pushed = None; left = false } ≡ noted_answer syms watched e fs
 nothing_noted syms watched e fs is =
     sym (ap (λ (p : Option Activation). record {
       pushed = option_map (λ (a : Activation). a.func) p;
-      left = list_any (λ (f : Frame). is_among watched f.func) (dropped syms e fs);
+      left = list_any (λ (f : Frame). is_among watched f.func) (dropped_frames syms e fs);
     }) (none_pushed syms e fs is)
     ∙ ap (λ n. record { pushed = None; left = list_any (λ (f : Frame). is_among watched f.func) (take n fs) })
     (none_gone syms e fs is))

@@ -14,16 +14,16 @@ use Rattle.event_costs.specs.Order.{same_arc}
 use Rattle.arc_costs.specs.Rows.{ArcRow}
 use Rattle.arc_costs.proofs.ArcLemmas.{same_arc_laws}
 use Rattle.arc_costs.proofs.RowLemmas.{number_of_sum, sum_at_one, zero_replicate}
-use Rattle.shadow_stack.specs.Frames.{activation, closing, closings, count_pushed, frame_of, pushing, restarted}
-use Rattle.shadow_stack.specs.Frames.{restarted_at, stack, StartWithin, with_frame}
+use Rattle.shadow_stack.specs.Frames.{activation, closing, closings, count_pushed, frame_of, pushing, restarted_frames}
+use Rattle.shadow_stack.specs.Frames.{restarted_frame, stack, StartWithin, with_frame}
 use Rattle.shadow_stack.specs.Stacks.{Activation}
 use Rattle.shadow_stack.specs.declared.frame.Frame.{Frame}
 use Rattle.shadow_stack.proofs.TellingLemmas.{StartWithin-tail}
-use Rattle.recorder.specs.Notes.{open_sum, told_rows}
+use Rattle.recorder.specs.Notes.{open_sum, rows_of_tellings}
 use Rattle.recorder.specs.Sums.{entered_by, is_arc, pushes}
 use Rattle.recorder.specs.inner.Books.{AreKeyed}
 use Rattle.recorder.specs.inner.Tellers.{count_pushes, IsKeyed}
-use Rattle.recorder.specs.inner.TellerLaws.{count_pushes-append, told_calls-append, told_costs-append}
+use Rattle.recorder.specs.inner.TellerLaws.{count_pushes-append, telling_calls-append, telling_costs-append}
 
 -- what one open frame has for an arc
 abbrev pub open_share : ℕ → List ℕ → ArcKey → Frame → ℕ
@@ -65,7 +65,7 @@ either_zero false n is = refl
 
 closing_cost : (kind : ℕ) (total : List ℕ) (arc : ArcKey) (f : Frame) (from : Option ArcKey) → f.from ≡ from
     → AllZip (λ t s. s ≤ t) total f.start
-    → arc_sum kind arc (told_rows (option_map_or (λ key. Closed key (difference_of_costs total f.start) ∷ []) from []))
+    → arc_sum kind arc (rows_of_tellings (option_map_or (λ key. Closed key (difference_of_costs total f.start) ∷ []) from []))
     ≡ (if is_arc arc from then get_or total kind 0 - get_or f.start kind 0 else 0)
 closing_cost kind total arc f None is below = refl
 closing_cost kind total arc f (Some key) is below =
@@ -73,43 +73,43 @@ closing_cost kind total arc f (Some key) is below =
     ∙ ap (λ n. if same_arc arc key then n else 0) (number_of_difference total f.start kind below)
 
 pub closings_costs : (kind : ℕ) (total : List ℕ) (arc : ArcKey) (fs : List Frame) → StartWithin total fs
-    → arc_sum kind arc (told_rows (closings total fs)) ≡ open_sum kind total arc fs
+    → arc_sum kind arc (rows_of_tellings (closings total fs)) ≡ open_sum kind total arc fs
 closings_costs kind total arc [] all = refl
 closings_costs kind total arc (f ∷ fs) all =
     let here = closing_cost kind total arc f f.from refl (starts_head total f fs all) in
     let rest = closings_costs kind total arc fs (StartWithin-tail total (f ∷ fs) fs f refl all) in
-    told_costs-append kind arc (closing total f) (closings total fs)
+    telling_costs-append kind arc (closing total f) (closings total fs)
     ∙ (let sums = open_sum-cons kind total arc f fs in omega (arith, here, rest, sums))
 
 closing_calls : (total : List ℕ) (arc : ArcKey) (f : Frame) (from : Option ArcKey)
-    → call_sum arc (told_rows (option_map_or (λ key. Closed key (difference_of_costs total f.start) ∷ []) from [])) ≡ 0
+    → call_sum arc (rows_of_tellings (option_map_or (λ key. Closed key (difference_of_costs total f.start) ∷ []) from [])) ≡ 0
 closing_calls total arc f None = refl
 closing_calls total arc f (Some key) = calls_alone arc (cost_of_arc key (difference_of_costs total f.start))
     ∙ either_zero (same_arc arc key) 0 refl
 
 pub closings_calls : (total : List ℕ) (arc : ArcKey) (fs : List Frame)
-    → call_sum arc (told_rows (closings total fs)) ≡ 0
+    → call_sum arc (rows_of_tellings (closings total fs)) ≡ 0
 closings_calls total arc [] = refl
 closings_calls total arc (f ∷ fs) =
     let here = closing_calls total arc f f.from in
     let rest = closings_calls total arc fs in
-    told_calls-append arc (closing total f) (closings total fs) ∙ omega (arith, here, rest)
+    telling_calls-append arc (closing total f) (closings total fs) ∙ omega (arith, here, rest)
 
 -- what is told of a frame that is pushed
-pub pushing_costs : (kind : ℕ) (arc : ArcKey) (p : Option Activation) → arc_sum kind arc (told_rows (pushing p)) ≡ 0
+pub pushing_costs : (kind : ℕ) (arc : ArcKey) (p : Option Activation) → arc_sum kind arc (rows_of_tellings (pushing p)) ≡ 0
 pushing_costs kind arc None = refl
 pushing_costs kind arc (Some a) = by a.arc
   where
-    by : (from : Option ArcKey) → arc_sum kind arc (told_rows (option_map_or (λ key. Pushed key ∷ []) from [])) ≡ 0
+    by : (from : Option ArcKey) → arc_sum kind arc (rows_of_tellings (option_map_or (λ key. Pushed key ∷ []) from [])) ≡ 0
     by None = refl
     by (Some key) = cost_alone kind arc key no_cost
         ∙ either_zero (same_arc arc key) (get_or no_cost kind 0) (zero_replicate event_kinds kind)
 
-pub pushing_calls : (arc : ArcKey) (p : Option Activation) → call_sum arc (told_rows (pushing p)) ≡ pushes arc p
+pub pushing_calls : (arc : ArcKey) (p : Option Activation) → call_sum arc (rows_of_tellings (pushing p)) ≡ pushes arc p
 pushing_calls arc None = refl
 pushing_calls arc (Some a) = by a.arc
   where
-    by : (from : Option ArcKey) → call_sum arc (told_rows (option_map_or (λ key. Pushed key ∷ []) from []))
+    by : (from : Option ArcKey) → call_sum arc (rows_of_tellings (option_map_or (λ key. Pushed key ∷ []) from []))
         ≡ (if is_arc arc from then 1 else 0)
     by None = refl
     by (Some key) = calls_alone arc (call_of_arc key)
@@ -166,9 +166,9 @@ pushing_keyed arcs (Some a) = by a.arc
     by None = tt
     by (Some key) = (tt, tt)
 
-pub told_keyed : (arcs : List ArcRow) (total : List ℕ) (fs : List Frame) (p : Option Activation) → AreKeyed arcs fs
+pub tellings_keyed : (arcs : List ArcRow) (total : List ℕ) (fs : List Frame) (p : Option Activation) → AreKeyed arcs fs
     → AllByRecursion (IsKeyed arcs) (closings total fs ++ pushing p)
-told_keyed arcs total fs p keyed =
+tellings_keyed arcs total fs p keyed =
     keyed_both arcs (closings total fs) (pushing p) (closings_keyed arcs total fs keyed) (pushing_keyed arcs p)
 
 pub AreKeyed-drop : (arcs : List ArcRow) (n : ℕ) (fs : List Frame) → AreKeyed arcs fs → AreKeyed arcs (drop n fs)
@@ -232,10 +232,10 @@ open_sum-with kind total arc (Some a) fs =
     omega (arith, sums, here)
 
 pub open_sum-restarted : (kind : ℕ) (total : List ℕ) (arc : ArcKey) (fs : List Frame)
-    → open_sum kind total arc (restarted total fs) ≡ 0
+    → open_sum kind total arc (restarted_frames total fs) ≡ 0
 open_sum-restarted kind total arc [] = refl
 open_sum-restarted kind total arc (f ∷ fs) =
-    let sums = open_sum-cons kind total arc (restarted_at total f) (restarted total fs) in
+    let sums = open_sum-cons kind total arc (restarted_frame total f) (restarted_frames total fs) in
     let here = none_left (is_arc arc f.from) (get_or total kind 0) in
     let rest = open_sum-restarted kind total arc fs in
     omega (arith, sums, here, rest)

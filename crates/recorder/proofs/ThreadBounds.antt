@@ -5,7 +5,7 @@ use Rattle.std.proofs.lemmas.Bool.Decides.{eqb_tells}
 use Rattle.event_costs.specs.Costs.{event_kinds}
 use Rattle.event_costs.specs.declared.numbers.ThreadNo.{ThreadNo}
 use Rattle.arc_costs.proofs.RowLemmas.{zero_replicate}
-use Rattle.recorder.specs.Accounts.{account, Account, kept, Kept, kept_in, nobody, Recording}
+use Rattle.recorder.specs.Accounts.{account, Account, ledger, Ledger, ledger_in, nobody, Recording}
 use Rattle.recorder.specs.Bounds.{AllWithin, SumsWithin}
 use Rattle.recorder.proofs.RecordingLemmas.{same_thread}
 
@@ -20,7 +20,7 @@ none_within steps thread = record {
 
 pub new_within : (steps : ℕ) (r : Recording) → r.threads ≡ [] → AllWithin steps r
 new_within steps r none thread =
-    subst (λ (ks : List Kept). SumsWithin steps (kept_in thread ks).account) (sym none) (none_within steps thread)
+    subst (λ (ks : List Ledger). SumsWithin steps (ledger_in thread ks).account) (sym none) (none_within steps thread)
 
 pub within_later : (steps more : ℕ) (a : Account) → steps ≤ more → SumsWithin steps a → SumsWithin more a
 within_later steps more a up within = record {
@@ -32,12 +32,12 @@ within_later steps more a up within = record {
 
 -- one thread's account changes
 pub all_within : (steps more : ℕ) (r s : Recording) (t : ThreadNo) → steps ≤ more → AllWithin steps r
-    → SumsWithin more (account s t) → ((o : ThreadNo) → o.0 ≢ t.0 → kept s o ≡ kept r o) → AllWithin more s
+    → SumsWithin more (account s t) → ((o : ThreadNo) → o.0 ≢ t.0 → ledger s o ≡ ledger r o) → AllWithin more s
 all_within steps more r s t up all own others o = by (eqb_tells o.0 t.0)
   where
     by : ((o.0 == t.0 ≡ true) × (o.0 ≡ t.0)) ⊎ ((o.0 == t.0 ≡ false) × (o.0 ≢ t.0)) → SumsWithin more (account s o)
     by (inl same) = subst (λ (u : ThreadNo). SumsWithin more (account s u)) (sym (same_thread o t same.1)) own
-    by (inr differs) = subst (λ (k : Kept). SumsWithin more k.account) (sym (others o differs.1))
+    by (inr differs) = subst (λ (k : Ledger). SumsWithin more k.account) (sym (others o differs.1))
         (within_later steps more (account r o) up (all o))
 
 -- none changes
@@ -47,9 +47,9 @@ all_same steps r s same all o = subst (λ (a : Account). SumsWithin steps a) (sy
 
 -- a thread begins, or memory is wanting
 pub begun_within : {U E : Type 0} (answer : Result U E) (steps : ℕ) (r s : Recording) (t : ThreadNo) → AllWithin steps r
-    → OnOk answer (SumsWithin 0 (account s t)) → OnOk answer ((o : ThreadNo) → o.0 ≢ t.0 → kept s o ≡ kept r o)
+    → OnOk answer (SumsWithin 0 (account s t)) → OnOk answer ((o : ThreadNo) → o.0 ≢ t.0 → ledger s o ≡ ledger r o)
     → OnErr answer (s.threads ≡ r.threads) → AllWithin steps s
 begun_within (Ok u) steps r s t all own others same =
     all_within steps steps r s t (omega arith) all (within_later 0 steps (account s t) (omega arith) own) others
 begun_within (Err e) steps r s t all own others same =
-    all_same steps r s (λ o. ap (λ (ks : List Kept). (kept_in o ks).account) same) all
+    all_same steps r s (λ o. ap (λ (ks : List Ledger). (ledger_in o ks).account) same) all

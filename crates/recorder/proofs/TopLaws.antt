@@ -8,14 +8,14 @@ use Rattle.event_costs.specs.declared.event.Flow.TheVariants.{Call, Jump, Swap, 
 use Rattle.event_costs.specs.declared.numbers.FuncId.{FuncId}
 use Rattle.sym_map.specs.SymbolMap.{SymbolMap}
 use Rattle.shadow_stack.specs.Kinds.{is_jump}
-use Rattle.shadow_stack.specs.Stacks.{Activation, is_of, Stack, top_of}
+use Rattle.shadow_stack.specs.Stacks.{Activation, is_activation_of, Stack, top_of}
 use Rattle.shadow_stack.specs.Changes.{after, Change, change_by, cut, down_to, next_func, settle_on, with_pushed}
 
 same_func : (a b : FuncId) → a.0 == b.0 ≡ true → a ≡ b
 same_func a b is = let e : a.0 ≡ b.0 = grind (arith, nat_tests) in λ i. record { 0 = e i }
 
 -- what is left down to a function begins with a frame of it
-found_here : (func : FuncId) (a : Activation) (s rest : Stack) (b c : Bool) → is_of func a ≡ b → is_jump a.kind ≡ c
+found_here : (func : FuncId) (a : Activation) (s rest : Stack) (b c : Bool) → is_activation_of func a ≡ b → is_jump a.kind ≡ c
     → ((r : Stack) → down_to func s ≡ Some r → top_of r ≡ Some func)
     → (if b then Some (a ∷ s) else (if c then down_to func s else None)) ≡ Some rest → top_of rest ≡ Some func
 found_here func a s rest true c is jumps more found =
@@ -34,10 +34,10 @@ found_here func a s rest false false is jumps more found = absurd (cc)
 down_to-top : (func : FuncId) (s rest : Stack) → down_to func s ≡ Some rest → top_of rest ≡ Some func
 down_to-top func [] rest found = absurd (cc)
 down_to-top func (a ∷ s) rest found =
-    found_here func a s rest (is_of func a) (is_jump a.kind) refl refl (down_to-top func s) found
+    found_here func a s rest (is_activation_of func a) (is_jump a.kind) refl refl (down_to-top func s) found
 
 abbrev top_after : Change → Option FuncId
-top_after c = top_of (with_pushed c.pushed c.kept)
+top_after c = top_of (with_pushed c.pushed c.rest)
 
 settled_top : (syms : SymbolMap) (e : Event) (s : Stack) (o : Option Stack) → down_to (next_func syms e) s ≡ o
     → top_after (settle_on syms e s o) ≡ Some (next_func syms e)
@@ -54,5 +54,5 @@ top_by syms e s Swap = refl
 pub top_follows : (syms : SymbolMap) (s : Stack) (e : Event) → e.ends ≡ false
     → top_of (after syms s e) ≡ Some (next_func syms e)
 top_follows syms s e goes_on =
-    let last : Change = record { kept = []; pushed = None } in
+    let last : Change = record { rest = []; pushed = None } in
     ap (λ b. top_after (if b then last else change_by syms e s e.done.flow)) goes_on ∙ top_by syms e s e.done.flow

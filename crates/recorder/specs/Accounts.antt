@@ -19,40 +19,40 @@ pub record Account : Type 0 where
   pub had_event : Bool
 
 -- an account, and how many new keys each of its tables takes without memory
-pub record Kept : Type 0 where
+pub record Ledger : Type 0 where
   pub account : Account
   pub line_room : ℕ
   pub arc_room : ℕ
 
 -- what is kept of each thread, in the order of their starts, and how many more frames fit without memory
 pub record Recording : Type 0 where
-  pub threads : List Kept
+  pub threads : List Ledger
   pub spare : ℕ
 
 -- what is kept of a thread that isn't known
-abbrev pub nobody : ThreadNo → Kept
+abbrev pub nobody : ThreadNo → Ledger
 nobody thread = record {
   account = record { thread = thread; frames = []; total = no_cost; lines = []; arcs = []; had_event = false };
   line_room = 0;
   arc_room = 0;
 }
 
-abbrev pub is_of : ThreadNo → Kept → Bool
-is_of thread k = thread.0 == k.account.thread.0
+abbrev pub is_ledger_of : ThreadNo → Ledger → Bool
+is_ledger_of thread k = thread.0 == k.account.thread.0
 
-abbrev pub kept_in : ThreadNo → List Kept → Kept
-kept_in thread [] = nobody thread
-kept_in thread (k ∷ ks) = if is_of thread k then k else kept_in thread ks
+abbrev pub ledger_in : ThreadNo → List Ledger → Ledger
+ledger_in thread [] = nobody thread
+ledger_in thread (k ∷ ks) = if is_ledger_of thread k then k else ledger_in thread ks
 
 abbrev pub knows : Recording → ThreadNo → Bool
-knows r thread = list_any (is_of thread) r.threads
+knows r thread = list_any (is_ledger_of thread) r.threads
 
 -- what is kept of a thread, and its account
-abbrev pub kept : Recording → ThreadNo → Kept
-kept r thread = kept_in thread r.threads
+abbrev pub ledger : Recording → ThreadNo → Ledger
+ledger r thread = ledger_in thread r.threads
 
 abbrev pub account : Recording → ThreadNo → Account
-account r thread = (kept r thread).account
+account r thread = (ledger r thread).account
 
 -- the live frames that are no roots: of a thread, and of all threads
 abbrev pub live_in : List Frame → ℕ
@@ -64,5 +64,5 @@ live r = sum_by (λ k. live_in k.account.frames) r.threads
 -- A note of the thread takes no memory: there is room for a frame, a new place and a new arc.
 pub record IsReady (r : Recording) (thread : ThreadNo) : Type 0 where
   pub frames : 1 ≤ r.spare
-  pub lines : 1 ≤ (kept r thread).line_room
-  pub arcs : 1 ≤ (kept r thread).arc_room
+  pub lines : 1 ≤ (ledger r thread).line_room
+  pub arcs : 1 ≤ (ledger r thread).arc_room

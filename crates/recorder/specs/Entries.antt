@@ -5,15 +5,15 @@ use Rattle.event_costs.specs.Costs.{IsWhole}
 use Rattle.event_costs.specs.declared.numbers.ThreadNo.{ThreadNo}
 use Rattle.sym_map.specs.SymbolMap.{SymbolMap}
 use Rattle.shadow_stack.specs.Stacks.{root, Stack}
-use Rattle.shadow_stack.specs.Traces.{Counted}
+use Rattle.shadow_stack.specs.Traces.{CountedEvent}
 use Rattle.recorder.specs.Accounts.{account, Account, nobody, Recording}
-use Rattle.recorder.specs.Notes.{cut_off, noted, started}
+use Rattle.recorder.specs.Notes.{account_after_cut, account_after_note, first_account}
 use Rattle.recorder.specs.Standing.{StandsFor}
 
 -- a thread begins at a pc; an event has its cost; a thread is cut
 pub data Entry : Type 0 where
   Begins : ThreadNo → ℕ → Entry
-  Notes : Counted → Entry
+  Notes : CountedEvent → Entry
   Cuts : ThreadNo → Entry
 
 abbrev pub thread_of : Entry → ThreadNo
@@ -25,8 +25,8 @@ abbrev pub is_entry_of : ThreadNo → Entry → Bool
 is_entry_of thread e = (thread_of e).0 == thread.0
 
 -- the entries of one thread
-abbrev pub own_entries : ThreadNo → List Entry → List Entry
-own_entries thread entries = filter (is_entry_of thread) entries
+abbrev pub entries_of : ThreadNo → List Entry → List Entry
+entries_of thread entries = filter (is_entry_of thread) entries
 
 -- the cost of an event has a number for each kind
 abbrev pub HasWholeCost : Entry → Type 0
@@ -35,13 +35,13 @@ HasWholeCost (Notes x) = IsWhole x.cost
 HasWholeCost (Cuts thread) = Unit {0}
 
 -- the account of a thread after an entry of its own, and after any
-abbrev pub own_account_after : SymbolMap → Account → Entry → Account
-own_account_after syms a (Begins thread pc) = started syms thread pc
-own_account_after syms a (Notes x) = noted syms x.event x.cost a
-own_account_after syms a (Cuts thread) = cut_off a
+abbrev pub account_after_entry : SymbolMap → Account → Entry → Account
+account_after_entry syms a (Begins thread pc) = first_account syms thread pc
+account_after_entry syms a (Notes x) = account_after_note syms x.event x.cost a
+account_after_entry syms a (Cuts thread) = account_after_cut a
 
 abbrev pub account_after : SymbolMap → ThreadNo → Account → Entry → Account
-account_after syms thread a e = if is_entry_of thread e then own_account_after syms a e else a
+account_after syms thread a e = if is_entry_of thread e then account_after_entry syms a e else a
 
 -- the account of a thread after entries, before which it isn't known
 abbrev pub account_of : SymbolMap → ThreadNo → List Entry → Account
@@ -51,16 +51,16 @@ account_of syms thread entries = fold (account_after syms thread) (nobody thread
 -- its last cut
 pub record History : Type 0 where
   pub first : Stack
-  pub earlier : List (List Counted)
-  pub last : List Counted
+  pub earlier : List (List CountedEvent)
+  pub last : List CountedEvent
 
-abbrev pub own_history_after : SymbolMap → History → Entry → History
-own_history_after syms h (Begins thread pc) = record { first = root syms pc; earlier = []; last = [] }
-own_history_after syms h (Notes x) = record { first = h.first; earlier = h.earlier; last = h.last ++ x ∷ [] }
-own_history_after syms h (Cuts thread) = record { first = h.first; earlier = h.earlier ++ h.last ∷ []; last = [] }
+abbrev pub history_after_entry : SymbolMap → History → Entry → History
+history_after_entry syms h (Begins thread pc) = record { first = root syms pc; earlier = []; last = [] }
+history_after_entry syms h (Notes x) = record { first = h.first; earlier = h.earlier; last = h.last ++ x ∷ [] }
+history_after_entry syms h (Cuts thread) = record { first = h.first; earlier = h.earlier ++ h.last ∷ []; last = [] }
 
 abbrev pub history_after : SymbolMap → ThreadNo → History → Entry → History
-history_after syms thread h e = if is_entry_of thread e then own_history_after syms h e else h
+history_after syms thread h e = if is_entry_of thread e then history_after_entry syms h e else h
 
 abbrev pub history_of : SymbolMap → ThreadNo → List Entry → History
 history_of syms thread entries = fold (history_after syms thread)

@@ -5,7 +5,7 @@ use Rattle.event_costs.specs.declared.numbers.ThreadNo.{ThreadNo}
 use Rattle.sym_map.specs.SymbolMap.{SymbolMap}
 use Rattle.shadow_stack.specs.Changes.{change}
 use Rattle.shadow_stack.specs.Stacks.{Activation}
-use Rattle.shadow_stack.specs.Traces.{Counted, is_by, Seen}
+use Rattle.shadow_stack.specs.Traces.{CountedEvent, is_by, EventOnStack}
 use Rattle.recorder.specs.Sums.{is_arc, of_thread}
 pub use Rattle.arc_costs.specs.Keys.{IsIn}
 
@@ -20,23 +20,23 @@ AreApart [] = Unit {0}
 AreApart (t ∷ ts) = ((other : ThreadNo) → IsIn ts other → t.0 ≢ other.0) × AreApart ts
 
 -- each event is of one of these threads
-abbrev pub AreOf : List ThreadNo → List Seen → Type 0
+abbrev pub AreOf : List ThreadNo → List EventOnStack → Type 0
 AreOf threads [] = Unit {0}
 AreOf threads (x ∷ xs) = ((t : ThreadNo) × IsIn threads t × (t.0 ≡ x.event.thread.0)) × AreOf threads xs
 
 -- a number of each thread's events in each segment, summed up
-abbrev pub over_all : (List Seen → ℕ) → List ThreadNo → List (List Seen) → ℕ
-over_all number threads segments =
+abbrev pub sum_over_all : (List EventOnStack → ℕ) → List ThreadNo → List (List EventOnStack) → ℕ
+sum_over_all number threads segments =
     sum_by (λ segment. sum_by (λ thread. number (of_thread thread segment)) threads) segments
 
 -- An event of a list pushes a frame that is entered by this arc.
-pub record IsPushed (syms : SymbolMap) (key : ArcKey) (xs : List Seen) : Type 0 where
-  pub event : Seen
+pub record IsPushed (syms : SymbolMap) (key : ArcKey) (xs : List EventOnStack) : Type 0 where
+  pub event : EventOnStack
   pub inside : IsIn xs event
   pub frame : Activation
   pub pushed : (change syms event.event event.stack).pushed ≡ Some frame
   pub entered : is_arc key frame.arc ≡ true
 
 -- the events of one thread in a trace, with their costs
-abbrev pub own_events : ThreadNo → List Counted → List Counted
-own_events thread trace = filter (is_by thread) trace
+abbrev pub counted_events_by : ThreadNo → List CountedEvent → List CountedEvent
+counted_events_by thread trace = filter (is_by thread) trace

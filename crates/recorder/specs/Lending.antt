@@ -2,7 +2,7 @@
 use Rattle.std.specs.Prelude.{◌≡◌, Option}
 use Rattle.std.specs.Borrow.{Fml, GName, MutBor, RestsIfNone}
 use Rattle.event_costs.specs.declared.numbers.ThreadNo.{ThreadNo}
-use Rattle.recorder.specs.Accounts.{Account, kept, Kept, Recording}
+use Rattle.recorder.specs.Accounts.{Account, ledger, Ledger, Recording}
 use Rattle.recorder.specs.contracts.recorder.Recorder.{the_row}
 use Rattle.recorder.specs.declared.lent.Lent.{Lent}
 
@@ -15,11 +15,11 @@ abbrev pub thread_of : Lent → ThreadNo
 thread_of lent = lent.thread
 
 -- what is kept of that thread, and its account
-abbrev pub own_kept : Lent → Kept
-own_kept lent = kept (recording lent) (thread_of lent)
+abbrev pub lent_ledger : Lent → Ledger
+lent_ledger lent = ledger (recording lent) (thread_of lent)
 
-abbrev pub own : Lent → Account
-own lent = (own_kept lent).account
+abbrev pub lent_account : Lent → Account
+lent_account lent = (lent_ledger lent).account
 
 -- the recorder that lent it
 abbrev pub lender : Lent → GName

@@ -8,7 +8,7 @@ use Rattle.sym_map.specs.SymbolMap.{SymbolMap}
 use Rattle.shadow_stack.specs.Changes.{after}
 use Rattle.shadow_stack.specs.Frames.{stack}
 use Rattle.shadow_stack.specs.Stacks.{Stack}
-use Rattle.shadow_stack.specs.Traces.{Counted, Seen, stack_after}
+use Rattle.shadow_stack.specs.Traces.{CountedEvent, EventOnStack, stack_after}
 use Rattle.arc_costs.specs.Arcs.{arc_of, arc_sum, call_sum, is_some_arc}
 use Rattle.arc_costs.specs.Contents.{Listed}
 use Rattle.arc_costs.specs.Lines.{is_some_line, line_sum, place_of}
@@ -23,7 +23,7 @@ has_some (x ∷ xs) = true
 
 -- An account stands for a stack and for events since its last cut: its tables plus, for each open frame, the total less
 -- the frame's start, are the sums of these events.
-pub record Stands (syms : SymbolMap) (s : Stack) (since : List Seen) (a : Account) : Type 0 where
+pub record Stands (syms : SymbolMap) (s : Stack) (since : List EventOnStack) (a : Account) : Type 0 where
   pub stack : stack a.frames ≡ s
   pub lines : (kind : ℕ) (place : Place) → line_sum kind place a.lines ≡ self_cost syms kind place since
   pub arcs : (kind : ℕ) (arc : ArcKey) → arc_sum kind arc a.arcs + open_sum kind a.total arc a.frames
@@ -32,7 +32,7 @@ pub record Stands (syms : SymbolMap) (s : Stack) (since : List Seen) (a : Accoun
   pub had_event : a.had_event ≡ has_some since
 
 -- Rows are those of these events: each key comes once, in order, with its sums, and no row is all 0.
-pub record AreRowsOf (syms : SymbolMap) (xs : List Seen) (rows : Listed) : Type 0 where
+pub record AreRowsOf (syms : SymbolMap) (xs : List EventOnStack) (rows : Listed) : Type 0 where
   pub lines : (kind : ℕ) (place : Place) → line_sum kind place rows.lines ≡ self_cost syms kind place xs
   pub arcs : (kind : ℕ) (arc : ArcKey) → arc_sum kind arc rows.arcs ≡ arc_cost kind arc xs
   pub calls : (arc : ArcKey) → call_sum arc rows.arcs ≡ arc_calls syms arc xs
@@ -54,35 +54,35 @@ pub record IsCutOf (a : Account) (rows : Listed) : Type 0 where
   pub some_arcs : filter is_some_arc rows.arcs ≡ rows.arcs
 
 -- an event with its cost, alone and with the stack before it
-abbrev pub counted : Event → List ℕ → Counted
-counted e cost = record { event = e; cost = cost }
+abbrev pub counted_event : Event → List ℕ → CountedEvent
+counted_event e cost = record { event = e; cost = cost }
 
-abbrev pub seen_on : Stack → Event → List ℕ → Seen
-seen_on s e cost = record { event = e; cost = cost; stack = s }
+abbrev pub event_on_stack : Stack → Event → List ℕ → EventOnStack
+event_on_stack s e cost = record { event = e; cost = cost; stack = s }
 
 -- events of one thread, each with the stack before it; the first has this one
-abbrev pub own_seen : SymbolMap → Stack → List Counted → List Seen
-own_seen syms s [] = []
-own_seen syms s (x ∷ xs) = record {
+abbrev pub events_on_stack : SymbolMap → Stack → List CountedEvent → List EventOnStack
+events_on_stack syms s [] = []
+events_on_stack syms s (x ∷ xs) = record {
   event = x.event;
   cost = x.cost;
   stack = s;
-} ∷ own_seen syms (after syms s x.event) xs
+} ∷ events_on_stack syms (after syms s x.event) xs
 
 -- the stack after events of one thread
-abbrev pub own_stack : SymbolMap → Stack → List Counted → Stack
-own_stack syms s xs = stack_after syms s (map (λ x. x.event) xs)
+abbrev pub stack_after_events : SymbolMap → Stack → List CountedEvent → Stack
+stack_after_events syms s xs = stack_after syms s (map (λ x. x.event) xs)
 
 -- The events of the last piece of a thread's events, each with its stack, which is folded over all pieces: the earlier
 -- ones and the last. The sums of these events are the thread's own rows.
-abbrev pub last_seen : SymbolMap → Stack → List (List Counted) → List Counted → List Seen
-last_seen syms s earlier last = own_seen syms (own_stack syms s (flat_map (λ piece. piece) earlier)) last
+abbrev pub last_events_on_stack : SymbolMap → Stack → List (List CountedEvent) → List CountedEvent → List EventOnStack
+last_events_on_stack syms s earlier last = events_on_stack syms (stack_after_events syms s (flat_map (λ piece. piece) earlier)) last
 
 -- An account stands for all events of its thread, in the pieces between its cuts; it began with this stack.
-pub record StandsFor (syms : SymbolMap) (s : Stack) (earlier : List (List Counted)) (last : List Counted)
+pub record StandsFor (syms : SymbolMap) (s : Stack) (earlier : List (List CountedEvent)) (last : List CountedEvent)
     (a : Account) : Type 0 where
-  pub since : Stands syms (own_stack syms s (flat_map (λ piece. piece) earlier ++ last))
-      (last_seen syms s earlier last) a
+  pub since : Stands syms (stack_after_events syms s (flat_map (λ piece. piece) earlier ++ last))
+      (last_events_on_stack syms s earlier last) a
   pub total : (kind : ℕ) → slice_index a.total kind
       ≡ sum_by (λ x. slice_index x.cost kind) (flat_map (λ piece. piece) earlier ++ last)
 

@@ -5,16 +5,16 @@ ghost use Rattle.std.specs.Prelude.{if◌then◌else◌};
 ghost use Rattle.event_costs.specs.Costs.{IsWhole, no_cost};
 ghost use Rattle.sym_map.specs.SymbolMap.{place_of, SymbolMap};
 ghost use Rattle.shadow_stack.specs.Arenas.{frames, stack_at, LeavesOthers, LiesIn};
-ghost use Rattle.shadow_stack.specs.Changes.{change, gone, next_func, unchanged};
+ghost use Rattle.shadow_stack.specs.Changes.{change, drop_count, next_func, no_change};
 ghost use Rattle.shadow_stack.specs.Stacks.{Stack, top_of};
-ghost use Rattle.shadow_stack.specs.Frames.{closings, count_pushed, frames_after, pushed, restarted, StartWithin};
+ghost use Rattle.shadow_stack.specs.Frames.{closings, count_pushed, frames_after, pushed_activation, restarted_frames, StartWithin};
 ghost use Rattle.shadow_stack.specs.Frames.{tellings};
 ghost use Rattle.arc_costs.specs.Lines.{has_line, cleared_lines};
 ghost use Rattle.arc_costs.specs.Arcs.{cleared_arcs};
-ghost use Rattle.recorder.specs.Notes.{CanNote, cut_off, noted, noted_answer};
+ghost use Rattle.recorder.specs.Notes.{CanNote, account_after_cut, account_after_note, noted_answer};
 ghost use Rattle.recorder.specs.Standing.{IsCutOf, SameSums};
-ghost use Rattle.recorder.specs.inner.Books.{account_in, Adds, AreEntered, AreRowsIn, entered_in, Gives, IsKept};
-ghost use Rattle.recorder.specs.inner.Tellers.{CanTell, root_is_left, RowsTold};
+ghost use Rattle.recorder.specs.inner.Books.{account_in, Adds, AreEntered, AreRowsIn, entered_in, Gives, IsSoundBook};
+ghost use Rattle.recorder.specs.inner.Tellers.{CanTell, root_leaves, RowsAfterTellings};
 
 use crate::event_cost::EventCost;
 use crate::teller::Teller;
@@ -83,21 +83,21 @@ impl Book {
         requires room { 1 ≤ arena.old.spare }
         requires line_room { 1 ≤ self.old.rows.line_room }
         requires arc_room { 1 ≤ self.old.rows.arc_room }
-        requires kept { IsKept arena.old.slots self.old }
+        requires kept { IsSoundBook arena.old.slots self.old }
         requires can { CanNote step.now.syms.now step.now.event.now (C.numbers cost.now) (account_in arena.old.slots self.old) }
         ensures account { account_in arena.new.slots self.new
-            ≡ noted step.now.syms.now step.now.event.now (C.numbers cost.now) (account_in arena.old.slots self.old) }
+            ≡ account_after_note step.now.syms.now step.now.event.now (C.numbers cost.now) (account_in arena.old.slots self.old) }
         ensures adds { Adds step.now.syms.now step.now.event.now (C.numbers cost.now) (account_in arena.old.slots self.old)
             (account_in arena.new.slots self.new) }
-        ensures kept { IsKept arena.new.slots self.new }
+        ensures kept { IsSoundBook arena.new.slots self.new }
         ensures answer { result ≡ noted_answer step.now.syms.now step.now.watched.now step.now.event.now (frames arena.old.slots self.old.head) }
         ensures line_room { self.new.rows.line_room
             + (if has_line (place_of step.now.syms.now step.now.event.now.done.pc) self.old.rows.lines then 0 else 1)
             ≡ self.old.rows.line_room }
         ensures arc_room { self.old.rows.arc_room
-            ≤ self.new.rows.arc_room + count_pushed (pushed step.now.syms.now step.now.event.now (frames arena.old.slots self.old.head)) }
-        ensures room { arena.new.spare + count_pushed (pushed step.now.syms.now step.now.event.now (frames arena.old.slots self.old.head))
-            ≡ arena.old.spare + gone step.now.syms.now step.now.event.now (stack_at arena.old.slots self.old.head) }
+            ≤ self.new.rows.arc_room + count_pushed (pushed_activation step.now.syms.now step.now.event.now (frames arena.old.slots self.old.head)) }
+        ensures room { arena.new.spare + count_pushed (pushed_activation step.now.syms.now step.now.event.now (frames arena.old.slots self.old.head))
+            ≡ arena.old.spare + drop_count step.now.syms.now step.now.event.now (stack_at arena.old.slots self.old.head) }
         ensures others { LeavesOthers arena.old.slots self.old.head arena.new.slots self.new.head }
         ensures entered { entered_in self.new ≤ entered_in self.old + 1 }
         ensures live { live.new + entered_in self.old ≡ live.old + entered_in self.new }
@@ -131,7 +131,7 @@ impl Book {
     pub fn is_plain(&self, near: &NearRows, event: &Event, syms: &SymMap) -> bool
         ensures known { result ≡ true → has_line (place_of syms.now event.now.done.pc) self.now.rows.lines ≡ true }
         ensures stays { result ≡ true → (s : Stack) → top_of s ≡ Some (place_of syms.now event.now.done.pc).func
-            → change syms.now event.now s ≡ unchanged s }
+            → change syms.now event.now s ≡ no_change s }
     {
         let Some(way) = syms.way_within(event.done.pc, event.done.next) else {
             return false;
@@ -144,8 +144,8 @@ impl Book {
 
     /// Has the open frames give their cost so far, and start anew.
     fn cut(&mut self, arena: &mut Arena, nothing: &FuncSet)
-        requires kept { IsKept arena.old.slots self.old }
-        ensures kept { IsKept arena.new.slots self.new }
+        requires kept { IsSoundBook arena.old.slots self.old }
+        ensures kept { IsSoundBook arena.new.slots self.new }
         ensures gives { Gives (account_in arena.old.slots self.old) (account_in arena.new.slots self.new) }
         ensures head { self.new.head ≡ self.old.head }
         ensures line_room { self.new.rows.line_room ≡ self.old.rows.line_room }
@@ -164,13 +164,13 @@ impl Book {
         arena: &mut Arena,
         nothing: &FuncSet,
     ) -> Result<TableRows, OutOfMemory>
-        requires kept { IsKept arena.old.slots self.old }
-        ensures kept { IsKept arena.new.slots self.new }
+        requires kept { IsSoundBook arena.old.slots self.old }
+        ensures kept { IsSoundBook arena.new.slots self.new }
         ensures rows { IfOk result (IsCutOf (account_in arena.old.slots self.old)) }
         ensures whole_lines { IfOk result (λ rows. All (λ row. IsWhole row.cost) rows.lines) }
         ensures whole_arcs { IfOk result (λ rows. All (λ row. IsWhole row.cost) rows.arcs) }
         ensures account { OnOk result (account_in arena.new.slots self.new
-            ≡ cut_off (account_in arena.old.slots self.old)) }
+            ≡ account_after_cut (account_in arena.old.slots self.old)) }
         ensures err { OnErr result
             (SameSums (account_in arena.old.slots self.old) (account_in arena.new.slots self.new)) }
         ensures thread { self.new.thread ≡ self.old.thread }
@@ -210,7 +210,7 @@ impl Book {
 fn leaves_root(arena: &Arena, head: Head, event: &Event, watched: &FuncSet) -> bool
     requires lies { LiesIn arena.now.slots head }
     requires live { 0 < head.depth }
-    ensures { result ≡ root_is_left watched.now event.now (frames arena.now.slots head) }
+    ensures { result ≡ root_leaves watched.now event.now (frames arena.now.slots head) }
 {
     if !event.ends {
         return false;
@@ -240,7 +240,7 @@ fn change(
     requires place { IfSome way (λ w. w.place ≡ place_of step.now.syms.now step.now.event.now.done.pc) }
     requires func { IfSome way (λ w. w.next_func ≡ next_func step.now.syms.now step.now.event.now) }
     requires stays { way ≡ None → change step.now.syms.now step.now.event.now (stack_at arena.old.slots head)
-        ≡ unchanged (stack_at arena.old.slots head) }
+        ≡ no_change (stack_at arena.old.slots head) }
     requires counted { head.depth - 1 ≤ live.old }
     requires few { live.old < 2 ^ 32 }
     requires room { 1 ≤ arena.old.spare }
@@ -253,10 +253,10 @@ fn change(
     ensures frames { frames arena.new.slots result.head
         ≡ frames_after step.now.syms.now total.now (frames arena.old.slots head) step.now.event.now }
     ensures starts { StartWithin total.now (frames arena.new.slots result.head) }
-    ensures told { RowsTold rows.old (tellings step.now.syms.now total.now (frames arena.old.slots head) step.now.event.now) rows.new }
+    ensures told { RowsAfterTellings rows.old (tellings step.now.syms.now total.now (frames arena.old.slots head) step.now.event.now) rows.new }
     ensures answer { result.noted ≡ noted_answer step.now.syms.now step.now.watched.now step.now.event.now (frames arena.old.slots head) }
-    ensures room { arena.new.spare + count_pushed (pushed step.now.syms.now step.now.event.now (frames arena.old.slots head))
-        ≡ arena.old.spare + gone step.now.syms.now step.now.event.now (stack_at arena.old.slots head) }
+    ensures room { arena.new.spare + count_pushed (pushed_activation step.now.syms.now step.now.event.now (frames arena.old.slots head))
+        ≡ arena.old.spare + drop_count step.now.syms.now step.now.event.now (stack_at arena.old.slots head) }
     ensures others { LeavesOthers arena.old.slots head arena.new.slots result.head }
     ensures live { live.new + (head.depth - 1) ≡ live.old + (result.head.depth - 1) }
 {
@@ -300,11 +300,11 @@ fn change_frames(
     ensures frames { frames arena.new.slots head.new
         ≡ frames_after step.now.syms.now total.now (frames arena.old.slots head.old) step.now.event.now }
     ensures starts { StartWithin total.now (frames arena.new.slots head.new) }
-    ensures told { RowsTold rows.old (tellings step.now.syms.now total.now (frames arena.old.slots head.old) step.now.event.now)
+    ensures told { RowsAfterTellings rows.old (tellings step.now.syms.now total.now (frames arena.old.slots head.old) step.now.event.now)
         rows.new }
     ensures answer { result ≡ noted_answer step.now.syms.now step.now.watched.now step.now.event.now (frames arena.old.slots head.old) }
-    ensures room { arena.new.spare + count_pushed (pushed step.now.syms.now step.now.event.now (frames arena.old.slots head.old))
-        ≡ arena.old.spare + gone step.now.syms.now step.now.event.now (stack_at arena.old.slots head.old) }
+    ensures room { arena.new.spare + count_pushed (pushed_activation step.now.syms.now step.now.event.now (frames arena.old.slots head.old))
+        ≡ arena.old.spare + drop_count step.now.syms.now step.now.event.now (stack_at arena.old.slots head.old) }
     ensures others { LeavesOthers arena.old.slots head.old arena.new.slots head.new }
 {
     let left = leaves_root(arena, *head, step.event, step.watched);
@@ -325,8 +325,8 @@ fn restart(arena: &mut Arena, head: &mut Head, total: &Cost, rows: &mut Tables, 
     requires tellings { CanTell rows.old (closings total.now (frames arena.old.slots head.old)) }
     ensures lies { LiesIn arena.new.slots head.new }
     ensures head { head.new ≡ head.old }
-    ensures frames { frames arena.new.slots head.new ≡ restarted total.now (frames arena.old.slots head.old) }
-    ensures told { RowsTold rows.old (closings total.now (frames arena.old.slots head.old)) rows.new }
+    ensures frames { frames arena.new.slots head.new ≡ restarted_frames total.now (frames arena.old.slots head.old) }
+    ensures told { RowsAfterTellings rows.old (closings total.now (frames arena.old.slots head.old)) rows.new }
     ensures room { arena.new.spare ≡ arena.old.spare }
     ensures others { LeavesOthers arena.old.slots head.old arena.new.slots head.new }
 {

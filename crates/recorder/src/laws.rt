@@ -8,12 +8,12 @@ ghost use Rattle.sym_map.specs.SymbolMap.{place_of, SymbolMap};
 ghost use Rattle.shadow_stack.specs.Frames.{stack};
 ghost use Rattle.shadow_stack.specs.Changes.{after};
 ghost use Rattle.shadow_stack.specs.Stacks.{most_frames, root, Stack, top_of};
-ghost use Rattle.shadow_stack.specs.Traces.{Counted, own, seen, Seen, stack_of};
-ghost use Rattle.recorder.specs.Accounts.{account, Account, kept, Recording};
+ghost use Rattle.shadow_stack.specs.Traces.{CountedEvent, events_by, events_on_stacks, EventOnStack, stack_of};
+ghost use Rattle.recorder.specs.Accounts.{account, Account, ledger, Recording};
 ghost use Rattle.recorder.specs.Bounds.{AllWithin, IsUnit, SumsWithin};
-ghost use Rattle.recorder.specs.Entries.{account_of, Entry, HaveWholeCosts, history_of, LeadTo, own_entries};
+ghost use Rattle.recorder.specs.Entries.{account_of, Entry, HaveWholeCosts, history_of, LeadTo, entries_of};
 ghost use Rattle.recorder.specs.Entries.{StandsForHistory};
-ghost use Rattle.recorder.specs.Laws.{AreApart, AreOf, IsIn, IsPushed, over_all, own_events, pieces};
+ghost use Rattle.recorder.specs.Laws.{AreApart, AreOf, IsIn, IsPushed, sum_over_all, counted_events_by, pieces};
 ghost use Rattle.recorder.specs.Notes.{CanNote};
 ghost use Rattle.recorder.specs.Sums.{arc_calls, arc_cost, of_thread, self_cost};
 
@@ -25,7 +25,7 @@ pub fn accounts_stand_for_their_entries()
         → StandsForHistory syms (history_of syms thread entries) (account_of syms thread entries) }
     // It is decided by the thread's own entries.
     ensures alone { (syms : SymbolMap) (thread : ThreadNoValue) (xs ys : List Entry)
-        → own_entries thread xs ≡ own_entries thread ys → account_of syms thread xs ≡ account_of syms thread ys }
+        → entries_of thread xs ≡ entries_of thread ys → account_of syms thread xs ≡ account_of syms thread ys }
     // A recorder without threads that calls lead on by these entries has these accounts.
     ensures kept { (syms : SymbolMap) (thread : ThreadNoValue) (entries : List Entry) (r s : Recording)
         → r.threads ≡ [] → LeadTo syms r entries s → account s thread ≡ account_of syms thread entries }
@@ -34,38 +34,38 @@ pub fn accounts_stand_for_their_entries()
 /// Segments put together: for every cutting of a list of events, the sums over all segments and threads are the sums
 /// over the list.
 pub fn segments_sum_up()
-    ensures lines { (syms : SymbolMap) (threads : List ThreadNoValue) (cuts : List ℕ) (xs : List Seen) (kind : ℕ)
+    ensures lines { (syms : SymbolMap) (threads : List ThreadNoValue) (cuts : List ℕ) (xs : List EventOnStack) (kind : ℕ)
         (place : PlaceValue)
-        → AreApart threads → AreOf threads xs → over_all (self_cost syms kind place) threads (pieces cuts xs)
+        → AreApart threads → AreOf threads xs → sum_over_all (self_cost syms kind place) threads (pieces cuts xs)
         ≡ self_cost syms kind place xs }
-    ensures arcs { (threads : List ThreadNoValue) (cuts : List ℕ) (xs : List Seen) (kind : ℕ) (arc : ArcKeyValue)
-        → AreApart threads → AreOf threads xs → over_all (arc_cost kind arc) threads (pieces cuts xs)
+    ensures arcs { (threads : List ThreadNoValue) (cuts : List ℕ) (xs : List EventOnStack) (kind : ℕ) (arc : ArcKeyValue)
+        → AreApart threads → AreOf threads xs → sum_over_all (arc_cost kind arc) threads (pieces cuts xs)
         ≡ arc_cost kind arc xs }
-    ensures calls { (syms : SymbolMap) (threads : List ThreadNoValue) (cuts : List ℕ) (xs : List Seen)
+    ensures calls { (syms : SymbolMap) (threads : List ThreadNoValue) (cuts : List ℕ) (xs : List EventOnStack)
         (arc : ArcKeyValue)
-        → AreApart threads → AreOf threads xs → over_all (arc_calls syms arc) threads (pieces cuts xs)
+        → AreApart threads → AreOf threads xs → sum_over_all (arc_calls syms arc) threads (pieces cuts xs)
         ≡ arc_calls syms arc xs }
 {}
 
 /// Each arc with a call or a cost in a segment of a trace, of whatever thread, is the arc of a frame that an event of
 /// the trace pushes.
 pub fn arcs_are_pushed()
-    ensures { (syms : SymbolMap) (trace : List Counted) (cuts : List ℕ) (segment : List Seen) (thread : ThreadNoValue)
+    ensures { (syms : SymbolMap) (trace : List CountedEvent) (cuts : List ℕ) (segment : List EventOnStack) (thread : ThreadNoValue)
         (arc : ArcKeyValue) (kind : ℕ)
-        → IsIn (pieces cuts (seen syms trace)) segment
+        → IsIn (pieces cuts (events_on_stacks syms trace)) segment
         → (arc_calls syms arc (of_thread thread segment) ≢ 0) ⊎ (arc_cost kind arc (of_thread thread segment) ≢ 0)
-        → IsPushed syms arc (seen syms trace) }
+        → IsPushed syms arc (events_on_stacks syms trace) }
 {}
 
 /// Isolation: where two lists of events have the same events of a thread, with their costs, they give the thread the
 /// same stack, and the same events with the same stacks, of which its sums are.
 pub fn threads_are_isolated()
-    ensures seen { (syms : SymbolMap) (thread : ThreadNoValue) (xs ys : List Counted)
-        → own_events thread xs ≡ own_events thread ys
-        → of_thread thread (seen syms xs) ≡ of_thread thread (seen syms ys) }
-    ensures stack { (syms : SymbolMap) (thread : ThreadNoValue) (xs ys : List Counted) (pc : ℕ)
-        → own_events thread xs ≡ own_events thread ys
-        → stack_of syms (own thread xs) pc ≡ stack_of syms (own thread ys) pc }
+    ensures seen { (syms : SymbolMap) (thread : ThreadNoValue) (xs ys : List CountedEvent)
+        → counted_events_by thread xs ≡ counted_events_by thread ys
+        → of_thread thread (events_on_stacks syms xs) ≡ of_thread thread (events_on_stacks syms ys) }
+    ensures stack { (syms : SymbolMap) (thread : ThreadNoValue) (xs ys : List CountedEvent) (pc : ℕ)
+        → counted_events_by thread xs ≡ counted_events_by thread ys
+        → stack_of syms (events_by thread xs) pc ≡ stack_of syms (events_by thread ys) pc }
 {}
 
 /// A run's events can be noted: with fewer than 10^12 events so far, each of a cost of zeros and ones, and no deeper a
@@ -84,7 +84,7 @@ pub fn bounds_are_of_all_threads()
     ensures none { (steps : ℕ) (r : Recording) → r.threads ≡ [] → AllWithin steps r }
     ensures one { (steps more : ℕ) (r s : Recording) (thread : ThreadNoValue) → steps ≤ more → AllWithin steps r
         → SumsWithin more (account s thread)
-        → ((other : ThreadNoValue) → other.0 ≢ thread.0 → kept s other ≡ kept r other) → AllWithin more s }
+        → ((other : ThreadNoValue) → other.0 ≢ thread.0 → ledger s other ≡ ledger r other) → AllWithin more s }
     ensures same { (steps : ℕ) (r s : Recording) → ((thread : ThreadNoValue) → account s thread ≡ account r thread)
         → AllWithin steps r → AllWithin steps s }
 {}

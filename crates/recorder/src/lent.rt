@@ -21,19 +21,19 @@ pub struct Lent<'a> {
 impl<'a> Lent<'a> {
     ghost use Rattle.std.specs.Prelude.{◌≡◌, ◌≢◌, ◌+◌, ◌<◌, ◌≤◌, ◌∷◌, ◌++◌, [], List, ℕ, IsNone, Some, ◌↔◌};
     ghost use Rattle.std.specs.Prelude.{if◌then◌else◌, length, reverse, slice_get};
-    ghost use Rattle.recorder.specs.Accounts.{account, IsReady, kept, knows, live, live_in};
+    ghost use Rattle.recorder.specs.Accounts.{account, IsReady, ledger, knows, live, live_in};
     ghost use Rattle.recorder.specs.Bounds.{IsUnit, SumsWithin};
     ghost use Rattle.recorder.specs.Entries.{Leads, Notes};
-    ghost use Rattle.recorder.specs.Lending.{lender, own, own_kept, recording, SameLoan, thread_of};
+    ghost use Rattle.recorder.specs.Lending.{lender, lent_account, lent_ledger, recording, SameLoan, thread_of};
     ghost use Rattle.event_costs.specs.declared.numbers.ThreadNo.{ThreadNo as ThreadNoValue};
     ghost use Rattle.sym_map.specs.SymbolMap.{place_of};
     ghost use Rattle.arc_costs.specs.Lines.{has_line};
-    ghost use Rattle.recorder.specs.Notes.{CanNote, frames_left, frames_used, NeedsNoRoom, noted, noted_answer};
+    ghost use Rattle.recorder.specs.Notes.{CanNote, frames_freed, frames_used, NeedsNoRoom, account_after_note, noted_answer};
     ghost use Rattle.recorder.specs.Notes.{places_used};
-    ghost use Rattle.recorder.specs.Standing.{counted, seen_on, Stands, StandsFor};
-    ghost use Rattle.shadow_stack.specs.Changes.{after as after_event, gone};
-    ghost use Rattle.shadow_stack.specs.Traces.{Counted, Seen};
-    ghost use Rattle.shadow_stack.specs.Frames.{count_pushed, pushed, stack};
+    ghost use Rattle.recorder.specs.Standing.{counted_event, event_on_stack, Stands, StandsFor};
+    ghost use Rattle.shadow_stack.specs.Changes.{after as after_event, drop_count};
+    ghost use Rattle.shadow_stack.specs.Traces.{CountedEvent, EventOnStack};
+    ghost use Rattle.shadow_stack.specs.Frames.{count_pushed, pushed_activation, stack};
     ghost use Rattle.shadow_stack.specs.Stacks.{Stack, most_frames, top_of};
 
     pub(crate) fn new(recorder: &'a mut Recorder, thread: ThreadNo, place: usize) -> Lent<'a>
@@ -51,23 +51,23 @@ impl<'a> Lent<'a> {
 
     /// The function of the top frame, nothing exactly after the thread's end.
     pub fn top(&self) -> Option<FuncId>
-        ensures top { result ≡ top_of (stack (own self.now).frames) }
-        ensures none { IsNone result ↔ ((own self.now).frames ≡ []) }
+        ensures top { result ≡ top_of (stack (lent_account self.now).frames) }
+        ensures none { IsNone result ↔ ((lent_account self.now).frames ≡ []) }
     {
         self.recorder.top_at(self.place, self.thread)
     }
 
     /// How many frames there are.
     pub fn depth(&self) -> usize
-        ensures { result ≡ length (own self.now).frames }
+        ensures { result ≡ length (lent_account self.now).frames }
     {
         self.recorder.depth_at(self.place, self.thread)
     }
 
     /// The frame at this place, counted from the bottom: the root is at 0.
     pub fn frame(&self, i: usize) -> Frame
-        requires { i < length (own self.now).frames }
-        ensures { slice_get (reverse (own self.now).frames) i ≡ Some result }
+        requires { i < length (lent_account self.now).frames }
+        ensures { slice_get (reverse (lent_account self.now).frames) i ≡ Some result }
     {
         self.recorder.frame_at(self.place, self.thread, i)
     }
@@ -77,37 +77,37 @@ impl<'a> Lent<'a> {
         requires thread { event.now.thread ≡ thread_of self.old }
         requires ready { IsReady (recording self.old) (thread_of self.old) }
         requires few { live (recording self.old) < most_frames }
-        requires can { CanNote syms.now event.now cost.now (own self.old) }
-        ensures account { own self.new ≡ noted syms.now event.now cost.now (own self.old) }
-        ensures answer { result ≡ noted_answer syms.now after.now event.now (own self.old).frames }
+        requires can { CanNote syms.now event.now cost.now (lent_account self.old) }
+        ensures account { lent_account self.new ≡ account_after_note syms.now event.now cost.now (lent_account self.old) }
+        ensures answer { result ≡ noted_answer syms.now after.now event.now (lent_account self.old).frames }
         // Every other thread is as before.
         ensures others { (other : ThreadNoValue) → other.0 ≢ (thread_of self.old).0
-            → kept (recording self.new) other ≡ kept (recording self.old) other }
+            → ledger (recording self.new) other ≡ ledger (recording self.old) other }
         ensures known { (other : ThreadNoValue) → knows (recording self.new) other ≡ knows (recording self.old) other }
-        ensures entry { Leads syms.now (recording self.old) (Notes (counted event.now cost.now)) (recording self.new) }
+        ensures entry { Leads syms.now (recording self.old) (Notes (counted_event event.now cost.now)) (recording self.new) }
         // An account that stands for events stands for one more.
-        ensures stands { (s : Stack) (since : List Seen) → Stands syms.now s since (own self.old)
-            → Stands syms.now (after_event syms.now s event.now) (since ++ seen_on s event.now cost.now ∷ [])
-            (own self.new) }
-        ensures stands_for { (s : Stack) (earlier : List (List Counted)) (last : List Counted)
-            → StandsFor syms.now s earlier last (own self.old)
-            → StandsFor syms.now s earlier (last ++ counted event.now cost.now ∷ []) (own self.new) }
+        ensures stands { (s : Stack) (since : List EventOnStack) → Stands syms.now s since (lent_account self.old)
+            → Stands syms.now (after_event syms.now s event.now) (since ++ event_on_stack s event.now cost.now ∷ [])
+            (lent_account self.new) }
+        ensures stands_for { (s : Stack) (earlier : List (List CountedEvent)) (last : List CountedEvent)
+            → StandsFor syms.now s earlier last (lent_account self.old)
+            → StandsFor syms.now s earlier (last ++ counted_event event.now cost.now ∷ []) (lent_account self.new) }
         // The sums of an account are those of one event more at most.
-        ensures bounds { (steps : ℕ) → IsUnit cost.now → SumsWithin steps (own self.old)
-            → SumsWithin (steps + 1) (own self.new) }
+        ensures bounds { (steps : ℕ) → IsUnit cost.now → SumsWithin steps (lent_account self.old)
+            → SumsWithin (steps + 1) (lent_account self.new) }
         // Room falls by one where a frame, a place or an arc is new; a frame that goes leaves room for another.
-        ensures frame_room { (recording self.new).spare + frames_used syms.now event.now (own self.old)
-            ≡ (recording self.old).spare + frames_left syms.now event.now (own self.old) }
-        ensures line_room { (own_kept self.new).line_room + places_used syms.now event.now (own self.old)
-            ≡ (own_kept self.old).line_room }
-        ensures arc_room { (own_kept self.old).arc_room
-            ≤ (own_kept self.new).arc_room + frames_used syms.now event.now (own self.old) }
+        ensures frame_room { (recording self.new).spare + frames_used syms.now event.now (lent_account self.old)
+            ≡ (recording self.old).spare + frames_freed syms.now event.now (lent_account self.old) }
+        ensures line_room { (lent_ledger self.new).line_room + places_used syms.now event.now (lent_account self.old)
+            ≡ (lent_ledger self.old).line_room }
+        ensures arc_room { (lent_ledger self.old).arc_room
+            ≤ (lent_ledger self.new).arc_room + frames_used syms.now event.now (lent_account self.old) }
         // An event that needs no room leaves every thread ready that was.
-        ensures lasting { NeedsNoRoom syms.now event.now (own self.old)
+        ensures lasting { NeedsNoRoom syms.now event.now (lent_account self.old)
             → (other : ThreadNoValue) → IsReady (recording self.old) other → IsReady (recording self.new) other }
         // The live frames of all threads change by those of this one.
-        ensures live { live (recording self.new) + live_in (own self.old).frames
-            ≡ live (recording self.old) + live_in (own self.new).frames }
+        ensures live { live (recording self.new) + live_in (lent_account self.old).frames
+            ≡ live (recording self.old) + live_in (lent_account self.new).frames }
         ensures loan { SameLoan self.old self.new }
     {
         self.note_event(event, cost, syms, after)
@@ -125,33 +125,33 @@ impl<'a> Lent<'a> {
         requires thread { event.now.thread ≡ thread_of self.old }
         requires ready { IsReady (recording self.old) (thread_of self.old) }
         requires few { live (recording self.old) < most_frames }
-        requires can { CanNote syms.now event.now (C.numbers cost.now) (own self.old) }
-        ensures account { own self.new ≡ noted syms.now event.now (C.numbers cost.now) (own self.old) }
-        ensures answer { result ≡ noted_answer syms.now after.now event.now (own self.old).frames }
+        requires can { CanNote syms.now event.now (C.numbers cost.now) (lent_account self.old) }
+        ensures account { lent_account self.new ≡ account_after_note syms.now event.now (C.numbers cost.now) (lent_account self.old) }
+        ensures answer { result ≡ noted_answer syms.now after.now event.now (lent_account self.old).frames }
         ensures others { (other : ThreadNoValue) → other.0 ≢ (thread_of self.old).0
-            → kept (recording self.new) other ≡ kept (recording self.old) other }
+            → ledger (recording self.new) other ≡ ledger (recording self.old) other }
         ensures known { (other : ThreadNoValue) → knows (recording self.new) other ≡ knows (recording self.old) other }
-        ensures entry { Leads syms.now (recording self.old) (Notes (counted event.now (C.numbers cost.now)))
+        ensures entry { Leads syms.now (recording self.old) (Notes (counted_event event.now (C.numbers cost.now)))
             (recording self.new) }
-        ensures stands { (s : Stack) (since : List Seen) → Stands syms.now s since (own self.old)
+        ensures stands { (s : Stack) (since : List EventOnStack) → Stands syms.now s since (lent_account self.old)
             → Stands syms.now (after_event syms.now s event.now)
-            (since ++ seen_on s event.now (C.numbers cost.now) ∷ [])
-            (own self.new) }
-        ensures stands_for { (s : Stack) (earlier : List (List Counted)) (last : List Counted)
-            → StandsFor syms.now s earlier last (own self.old)
-            → StandsFor syms.now s earlier (last ++ counted event.now (C.numbers cost.now) ∷ []) (own self.new) }
-        ensures bounds { (steps : ℕ) → IsUnit (C.numbers cost.now) → SumsWithin steps (own self.old)
-            → SumsWithin (steps + 1) (own self.new) }
-        ensures frame_room { (recording self.new).spare + frames_used syms.now event.now (own self.old)
-            ≡ (recording self.old).spare + frames_left syms.now event.now (own self.old) }
-        ensures line_room { (own_kept self.new).line_room + places_used syms.now event.now (own self.old)
-            ≡ (own_kept self.old).line_room }
-        ensures arc_room { (own_kept self.old).arc_room
-            ≤ (own_kept self.new).arc_room + frames_used syms.now event.now (own self.old) }
-        ensures lasting { NeedsNoRoom syms.now event.now (own self.old)
+            (since ++ event_on_stack s event.now (C.numbers cost.now) ∷ [])
+            (lent_account self.new) }
+        ensures stands_for { (s : Stack) (earlier : List (List CountedEvent)) (last : List CountedEvent)
+            → StandsFor syms.now s earlier last (lent_account self.old)
+            → StandsFor syms.now s earlier (last ++ counted_event event.now (C.numbers cost.now) ∷ []) (lent_account self.new) }
+        ensures bounds { (steps : ℕ) → IsUnit (C.numbers cost.now) → SumsWithin steps (lent_account self.old)
+            → SumsWithin (steps + 1) (lent_account self.new) }
+        ensures frame_room { (recording self.new).spare + frames_used syms.now event.now (lent_account self.old)
+            ≡ (recording self.old).spare + frames_freed syms.now event.now (lent_account self.old) }
+        ensures line_room { (lent_ledger self.new).line_room + places_used syms.now event.now (lent_account self.old)
+            ≡ (lent_ledger self.old).line_room }
+        ensures arc_room { (lent_ledger self.old).arc_room
+            ≤ (lent_ledger self.new).arc_room + frames_used syms.now event.now (lent_account self.old) }
+        ensures lasting { NeedsNoRoom syms.now event.now (lent_account self.old)
             → (other : ThreadNoValue) → IsReady (recording self.old) other → IsReady (recording self.new) other }
-        ensures live { live (recording self.new) + live_in (own self.old).frames
-            ≡ live (recording self.old) + live_in (own self.new).frames }
+        ensures live { live (recording self.new) + live_in (lent_account self.old).frames
+            ≡ live (recording self.old) + live_in (lent_account self.new).frames }
         ensures loan { SameLoan self.old self.new }
     {
         self.recorder.note_at(self.place, event, cost, syms, after)

@@ -8,21 +8,21 @@ ghost use Rattle.std.specs.Borrow.{sem};
 ghost use Rattle.event_costs.specs.Costs.{IsWhole};
 ghost use Rattle.event_costs.specs.declared.numbers.ThreadNo.{ThreadNo as ThreadNoValue};
 ghost use Rattle.sym_map.specs.SymbolMap.{place_of, SymbolMap};
-ghost use Rattle.shadow_stack.specs.Changes.{after as after_event, change, gone, unchanged};
-ghost use Rattle.shadow_stack.specs.Frames.{count_pushed, pushed, stack};
+ghost use Rattle.shadow_stack.specs.Changes.{after as after_event, change, drop_count, no_change};
+ghost use Rattle.shadow_stack.specs.Frames.{count_pushed, pushed_activation, stack};
 ghost use Rattle.shadow_stack.specs.Stacks.{Stack, most_frames, root, top_of};
-ghost use Rattle.shadow_stack.specs.Traces.{Counted, Seen};
+ghost use Rattle.shadow_stack.specs.Traces.{CountedEvent, EventOnStack};
 ghost use Rattle.arc_costs.specs.Lines.{has_line};
-ghost use Rattle.recorder.specs.Accounts.{account, IsReady, is_of, kept, knows, live, live_in, Recording};
+ghost use Rattle.recorder.specs.Accounts.{account, IsReady, is_ledger_of, ledger, knows, live, live_in, Recording};
 ghost use Rattle.recorder.specs.Bounds.{IsUnit, SumsWithin};
 ghost use Rattle.recorder.specs.Entries.{Begins, Cuts, Leads, Notes};
 ghost use Rattle.recorder.specs.Lending.{lender, LendsAccount, recording, thread_of};
-ghost use Rattle.recorder.specs.Notes.{CanNote, cut_off, frames_left, frames_used, NeedsNoRoom, places_used, noted};
-ghost use Rattle.recorder.specs.Notes.{noted_answer, started};
-ghost use Rattle.recorder.specs.Standing.{AreRowsOf, counted, seen_on, IsCutOf, last_seen, SameSums, Stands, StandsFor};
+ghost use Rattle.recorder.specs.Notes.{CanNote, account_after_cut, frames_freed, frames_used, NeedsNoRoom, places_used, account_after_note};
+ghost use Rattle.recorder.specs.Notes.{noted_answer, first_account};
+ghost use Rattle.recorder.specs.Standing.{AreRowsOf, counted_event, event_on_stack, IsCutOf, last_events_on_stack, SameSums, Stands, StandsFor};
 ghost use Rattle.recorder.specs.inner.Active.{IsMarkedReady, may_have};
 ghost use Rattle.recorder.specs.inner.Books.{Adds};
-ghost use Rattle.recorder.specs.inner.Places.{IsAt, IsReadyAt, IsRemembered, kept_at};
+ghost use Rattle.recorder.specs.inner.Places.{IsAt, IsReadyAt, IsRemembered, ledger_at};
 
 use crate::active::Active;
 use crate::book::{Book, Step};
@@ -71,18 +71,18 @@ struct ReadyThread {
 impl Model for Recorder {
     ghost use Rattle.std.specs.Prelude.{map};
     ghost use Rattle.recorder.specs.Accounts.{Recording};
-    ghost use Rattle.recorder.specs.inner.Books.{AreKept, kept_of};
+    ghost use Rattle.recorder.specs.inner.Books.{AreSoundBooks, ledger_of};
     ghost use Rattle.recorder.specs.inner.Active.{AreMarked, IsMarkedReady};
     ghost use Rattle.recorder.specs.inner.Places.{IsRemembered};
 
     ghost Value = { Recording };
 
-    ghost view = { λ r. record { threads = map (kept_of r.arena.slots) r.books.items; spare = r.arena.spare } };
+    ghost view = { λ r. record { threads = map (ledger_of r.arena.slots) r.books.items; spare = r.arena.spare } };
 
-    ghost invariant = { λ r. AreKept r.arena.slots r.threads.keys r.books.items r.entered
-        × IsRemembered (record { threads = map (kept_of r.arena.slots) r.books.items; spare = r.arena.spare })
+    ghost invariant = { λ r. AreSoundBooks r.arena.slots r.threads.keys r.books.items r.entered
+        × IsRemembered (record { threads = map (ledger_of r.arena.slots) r.books.items; spare = r.arena.spare })
         r.ready
-        × AreMarked (record { threads = map (kept_of r.arena.slots) r.books.items; spare = r.arena.spare })
+        × AreMarked (record { threads = map (ledger_of r.arena.slots) r.books.items; spare = r.arena.spare })
         r.active.words.items
         × IsMarkedReady r.ready r.active.words.items };
 }
@@ -109,7 +109,7 @@ impl Recorder {
     /// The place of a thread in the order of the starts. It is remembered, or looked for at its number first.
     #[inline(always)]
     fn place_of(&self, thread: ThreadNo) -> Option<usize>
-        ensures place { result ≡ position (is_of thread) self.now.threads }
+        ensures place { result ≡ position (is_ledger_of thread) self.now.threads }
         ensures found { is_some result ≡ knows self.now thread }
     {
         if let Some(place) = self.place_remembered(thread) {
@@ -136,7 +136,7 @@ impl Recorder {
     /// costs no hash.
     #[inline(always)]
     fn place_near(&self, thread: ThreadNo) -> Option<usize>
-        ensures place { IfSome result (λ place. position (is_of thread) self.now.threads ≡ Some place) }
+        ensures place { IfSome result (λ place. position (is_ledger_of thread) self.now.threads ≡ Some place) }
         ensures known { IfSome result (λ _. knows self.now thread ≡ true) }
     {
         let near = (thread.0 as usize).wrapping_sub(1);
@@ -153,7 +153,7 @@ impl Recorder {
     #[cold]
     #[inline(never)]
     fn place_by_hash(&self, thread: ThreadNo) -> Option<usize>
-        ensures place { result ≡ position (is_of thread) self.now.threads }
+        ensures place { result ≡ position (is_ledger_of thread) self.now.threads }
         ensures found { is_some result ≡ knows self.now thread }
     {
         self.threads.get_index_of(&thread)
@@ -170,10 +170,10 @@ impl Recorder {
     pub fn start(&mut self, thread: ThreadNo, pc: u32, syms: &SymMap) -> Result<(), OutOfMemory>
         requires unknown { knows self.old thread ≡ false }
         ensures threads { OnOk result (self.new.threads
-            ≡ self.old.threads ++ record { account = started syms.now thread pc; line_room = 1; arc_room = 1 } ∷ []) }
-        ensures account { OnOk result (account self.new thread ≡ started syms.now thread pc) }
+            ≡ self.old.threads ++ record { account = first_account syms.now thread pc; line_room = 1; arc_room = 1 } ∷ []) }
+        ensures account { OnOk result (account self.new thread ≡ first_account syms.now thread pc) }
         ensures others { OnOk result ((other : ThreadNoValue) → other.0 ≢ thread.0
-            → kept self.new other ≡ kept self.old other) }
+            → ledger self.new other ≡ ledger self.old other) }
         ensures known { OnOk result ((other : ThreadNoValue)
             → knows self.new other ≡ knows self.old other || other.0 == thread.0) }
         ensures stands { OnOk result (StandsFor syms.now (root syms.now pc) [] [] (account self.new thread)) }
@@ -269,32 +269,32 @@ impl Recorder {
         requires few { live self.old < most_frames }
         requires can { CanNote syms.now event.now cost.now (account self.old event.now.thread) }
         ensures account { account self.new event.now.thread
-            ≡ noted syms.now event.now cost.now (account self.old event.now.thread) }
+            ≡ account_after_note syms.now event.now cost.now (account self.old event.now.thread) }
         ensures answer { result ≡ noted_answer syms.now after.now event.now (account self.old event.now.thread).frames }
         // Every other thread is as before.
         ensures others { (other : ThreadNoValue) → other.0 ≢ event.now.thread.0
-            → kept self.new other ≡ kept self.old other }
+            → ledger self.new other ≡ ledger self.old other }
         ensures known { (other : ThreadNoValue) → knows self.new other ≡ knows self.old other }
-        ensures entry { Leads syms.now self.old (Notes (counted event.now cost.now)) self.new }
+        ensures entry { Leads syms.now self.old (Notes (counted_event event.now cost.now)) self.new }
         // An account that stands for events stands for one more.
-        ensures stands { (s : Stack) (since : List Seen) → Stands syms.now s since (account self.old event.now.thread)
-            → Stands syms.now (after_event syms.now s event.now) (since ++ seen_on s event.now cost.now ∷ [])
+        ensures stands { (s : Stack) (since : List EventOnStack) → Stands syms.now s since (account self.old event.now.thread)
+            → Stands syms.now (after_event syms.now s event.now) (since ++ event_on_stack s event.now cost.now ∷ [])
             (account self.new event.now.thread) }
-        ensures stands_for { (s : Stack) (earlier : List (List Counted)) (last : List Counted)
+        ensures stands_for { (s : Stack) (earlier : List (List CountedEvent)) (last : List CountedEvent)
             → StandsFor syms.now s earlier last (account self.old event.now.thread)
             → StandsFor syms.now s earlier (last
-            ++ counted event.now cost.now ∷ []) (account self.new event.now.thread) }
+            ++ counted_event event.now cost.now ∷ []) (account self.new event.now.thread) }
         // The sums of an account are those of one event more at most.
         ensures bounds { (steps : ℕ) → IsUnit cost.now → SumsWithin steps (account self.old event.now.thread)
             → SumsWithin (steps + 1) (account self.new event.now.thread) }
         // Room falls by one where a frame, a place or an arc is new; a frame that goes leaves room for another.
         ensures frame_room { self.new.spare + frames_used syms.now event.now (account self.old event.now.thread)
-            ≡ self.old.spare + frames_left syms.now event.now (account self.old event.now.thread) }
-        ensures line_room { (kept self.new event.now.thread).line_room
+            ≡ self.old.spare + frames_freed syms.now event.now (account self.old event.now.thread) }
+        ensures line_room { (ledger self.new event.now.thread).line_room
             + places_used syms.now event.now (account self.old event.now.thread)
-            ≡ (kept self.old event.now.thread).line_room }
-        ensures arc_room { (kept self.old event.now.thread).arc_room
-            ≤ (kept self.new event.now.thread).arc_room
+            ≡ (ledger self.old event.now.thread).line_room }
+        ensures arc_room { (ledger self.old event.now.thread).arc_room
+            ≤ (ledger self.new event.now.thread).arc_room
             + frames_used syms.now event.now (account self.old event.now.thread) }
         // An event that needs no room leaves every thread ready that was.
         ensures lasting { NeedsNoRoom syms.now event.now (account self.old event.now.thread)
@@ -323,30 +323,30 @@ impl Recorder {
         requires few { live self.old < most_frames }
         requires can { CanNote syms.now event.now (C.numbers cost.now) (account self.old event.now.thread) }
         ensures account { account self.new event.now.thread
-            ≡ noted syms.now event.now (C.numbers cost.now) (account self.old event.now.thread) }
+            ≡ account_after_note syms.now event.now (C.numbers cost.now) (account self.old event.now.thread) }
         ensures answer { result ≡ noted_answer syms.now after.now event.now (account self.old event.now.thread).frames }
         ensures others { (other : ThreadNoValue) → other.0 ≢ event.now.thread.0
-            → kept self.new other ≡ kept self.old other }
+            → ledger self.new other ≡ ledger self.old other }
         ensures known { (other : ThreadNoValue) → knows self.new other ≡ knows self.old other }
-        ensures entry { Leads syms.now self.old (Notes (counted event.now (C.numbers cost.now))) self.new }
-        ensures stands { (s : Stack) (since : List Seen) → Stands syms.now s since (account self.old event.now.thread)
+        ensures entry { Leads syms.now self.old (Notes (counted_event event.now (C.numbers cost.now))) self.new }
+        ensures stands { (s : Stack) (since : List EventOnStack) → Stands syms.now s since (account self.old event.now.thread)
             → Stands syms.now (after_event syms.now s event.now)
-            (since ++ seen_on s event.now (C.numbers cost.now) ∷ [])
+            (since ++ event_on_stack s event.now (C.numbers cost.now) ∷ [])
             (account self.new event.now.thread) }
-        ensures stands_for { (s : Stack) (earlier : List (List Counted)) (last : List Counted)
+        ensures stands_for { (s : Stack) (earlier : List (List CountedEvent)) (last : List CountedEvent)
             → StandsFor syms.now s earlier last (account self.old event.now.thread)
             → StandsFor syms.now s earlier (last
-            ++ counted event.now (C.numbers cost.now) ∷ []) (account self.new event.now.thread) }
+            ++ counted_event event.now (C.numbers cost.now) ∷ []) (account self.new event.now.thread) }
         ensures bounds { (steps : ℕ) → IsUnit (C.numbers cost.now)
             → SumsWithin steps (account self.old event.now.thread)
             → SumsWithin (steps + 1) (account self.new event.now.thread) }
         ensures frame_room { self.new.spare + frames_used syms.now event.now (account self.old event.now.thread)
-            ≡ self.old.spare + frames_left syms.now event.now (account self.old event.now.thread) }
-        ensures line_room { (kept self.new event.now.thread).line_room
+            ≡ self.old.spare + frames_freed syms.now event.now (account self.old event.now.thread) }
+        ensures line_room { (ledger self.new event.now.thread).line_room
             + places_used syms.now event.now (account self.old event.now.thread)
-            ≡ (kept self.old event.now.thread).line_room }
-        ensures arc_room { (kept self.old event.now.thread).arc_room
-            ≤ (kept self.new event.now.thread).arc_room
+            ≡ (ledger self.old event.now.thread).line_room }
+        ensures arc_room { (ledger self.old event.now.thread).arc_room
+            ≤ (ledger self.new event.now.thread).arc_room
             + frames_used syms.now event.now (account self.old event.now.thread) }
         ensures lasting { NeedsNoRoom syms.now event.now (account self.old event.now.thread)
             → (other : ThreadNoValue) → IsReady self.old other → IsReady self.new other }
@@ -370,7 +370,7 @@ impl Recorder {
             → top_of (stack (account self.now event.now.thread).frames)
             ≡ Some (place_of syms.now event.now.done.pc).func
             → change syms.now event.now (stack (account self.now event.now.thread).frames)
-            ≡ unchanged (stack (account self.now event.now.thread).frames) }
+            ≡ no_change (stack (account self.now event.now.thread).frames) }
     {
         match self.place_remembered(event.thread) {
             Some(place) => self.books[place].is_plain(&self.near, event, syms),
@@ -391,29 +391,29 @@ impl Recorder {
         requires at { IsAt self.old event.now.thread place }
         requires within { place < length self.old.threads }
         requires room { 1 ≤ self.old.spare }
-        requires line_room { 1 ≤ (kept_at self.old place event.now.thread).line_room }
-        requires arc_room { 1 ≤ (kept_at self.old place event.now.thread).arc_room }
+        requires line_room { 1 ≤ (ledger_at self.old place event.now.thread).line_room }
+        requires arc_room { 1 ≤ (ledger_at self.old place event.now.thread).arc_room }
         requires few { live self.old < most_frames }
         requires can { CanNote syms.now event.now (C.numbers cost.now)
-            (kept_at self.old place event.now.thread).account }
+            (ledger_at self.old place event.now.thread).account }
         ensures threads { self.new.threads
-            ≡ slice_set self.old.threads place (kept_at self.new place event.now.thread) }
-        ensures account { (kept_at self.new place event.now.thread).account
-            ≡ noted syms.now event.now (C.numbers cost.now) (kept_at self.old place event.now.thread).account }
-        ensures shallow { length (kept_at self.old place event.now.thread).account.frames ≤ most_frames }
-        ensures adds { Adds syms.now event.now (C.numbers cost.now) (kept_at self.old place event.now.thread).account
-            (kept_at self.new place event.now.thread).account }
+            ≡ slice_set self.old.threads place (ledger_at self.new place event.now.thread) }
+        ensures account { (ledger_at self.new place event.now.thread).account
+            ≡ account_after_note syms.now event.now (C.numbers cost.now) (ledger_at self.old place event.now.thread).account }
+        ensures shallow { length (ledger_at self.old place event.now.thread).account.frames ≤ most_frames }
+        ensures adds { Adds syms.now event.now (C.numbers cost.now) (ledger_at self.old place event.now.thread).account
+            (ledger_at self.new place event.now.thread).account }
         ensures answer { result
-            ≡ noted_answer syms.now watched.now event.now (kept_at self.old place event.now.thread).account.frames }
+            ≡ noted_answer syms.now watched.now event.now (ledger_at self.old place event.now.thread).account.frames }
         ensures frame_room { self.new.spare
-            + frames_used syms.now event.now (kept_at self.old place event.now.thread).account
-            ≡ self.old.spare + frames_left syms.now event.now (kept_at self.old place event.now.thread).account }
-        ensures line_room { (kept_at self.new place event.now.thread).line_room
-            + places_used syms.now event.now (kept_at self.old place event.now.thread).account
-            ≡ (kept_at self.old place event.now.thread).line_room }
-        ensures arc_room { (kept_at self.old place event.now.thread).arc_room
-            ≤ (kept_at self.new place event.now.thread).arc_room
-            + frames_used syms.now event.now (kept_at self.old place event.now.thread).account }
+            + frames_used syms.now event.now (ledger_at self.old place event.now.thread).account
+            ≡ self.old.spare + frames_freed syms.now event.now (ledger_at self.old place event.now.thread).account }
+        ensures line_room { (ledger_at self.new place event.now.thread).line_room
+            + places_used syms.now event.now (ledger_at self.old place event.now.thread).account
+            ≡ (ledger_at self.old place event.now.thread).line_room }
+        ensures arc_room { (ledger_at self.old place event.now.thread).arc_room
+            ≤ (ledger_at self.new place event.now.thread).arc_room
+            + frames_used syms.now event.now (ledger_at self.old place event.now.thread).account }
     {
         mark_other(self.ready, event.thread, &mut self.active);
         let plain = self.books[place].is_plain(&self.near, event, syms);
@@ -438,22 +438,22 @@ impl Recorder {
     /// What `Lent::top`, `Lent::depth` and `Lent::frame` answer, at the place of their thread.
     pub(crate) fn top_at(&self, place: usize, thread: ThreadNo) -> Option<FuncId>
         requires { place < length self.now.threads }
-        ensures { result ≡ top_of (stack (kept_at self.now place thread).account.frames) }
+        ensures { result ≡ top_of (stack (ledger_at self.now place thread).account.frames) }
     {
         top_of(&self.arena, self.books[place].head)
     }
 
     pub(crate) fn depth_at(&self, place: usize, thread: ThreadNo) -> usize
         requires { place < length self.now.threads }
-        ensures { result ≡ length (kept_at self.now place thread).account.frames }
+        ensures { result ≡ length (ledger_at self.now place thread).account.frames }
     {
         self.books[place].head.depth
     }
 
     pub(crate) fn frame_at(&self, place: usize, thread: ThreadNo, i: usize) -> Frame
         requires within { place < length self.now.threads }
-        requires some { i < length (kept_at self.now place thread).account.frames }
-        ensures { slice_get (reverse (kept_at self.now place thread).account.frames) i ≡ Some result }
+        requires some { i < length (ledger_at self.now place thread).account.frames }
+        ensures { slice_get (reverse (ledger_at self.now place thread).account.frames) i ≡ Some result }
     {
         frame_at(&self.arena, self.books[place].head, i)
     }
@@ -498,25 +498,25 @@ impl Recorder {
         // Each cost has a number for each kind of event.
         ensures whole_lines { IfOk result (λ rows. All (λ row. IsWhole row.cost) rows.lines) }
         ensures whole_arcs { IfOk result (λ rows. All (λ row. IsWhole row.cost) rows.arcs) }
-        ensures account { OnOk result (account self.new thread ≡ cut_off (account self.old thread)) }
+        ensures account { OnOk result (account self.new thread ≡ account_after_cut (account self.old thread)) }
         ensures err { OnErr result (SameSums (account self.old thread) (account self.new thread)) }
         // Every other thread is as before.
-        ensures others { (other : ThreadNoValue) → other.0 ≢ thread.0 → kept self.new other ≡ kept self.old other }
+        ensures others { (other : ThreadNoValue) → other.0 ≢ thread.0 → ledger self.new other ≡ ledger self.old other }
         ensures known { (other : ThreadNoValue) → knows self.new other ≡ knows self.old other }
         ensures entry { (syms : SymbolMap) → OnOk result (Leads syms self.old (Cuts thread) self.new) }
         // The rows are the sums of the events since the last cut.
-        ensures stands { (syms : SymbolMap) (s : Stack) (since : List Seen)
+        ensures stands { (syms : SymbolMap) (s : Stack) (since : List EventOnStack)
             → Stands syms s since (account self.old thread)
             → IfOk result (AreRowsOf syms since) }
         // They are the thread's own rows: the sums of the last piece of its own events, with its stack folded over all
         // pieces.
-        ensures own_rows { (syms : SymbolMap) (s : Stack) (earlier : List (List Counted)) (last : List Counted)
+        ensures own_rows { (syms : SymbolMap) (s : Stack) (earlier : List (List CountedEvent)) (last : List CountedEvent)
             → StandsFor syms s earlier last (account self.old thread)
-            → IfOk result (AreRowsOf syms (last_seen syms s earlier last)) }
-        ensures stands_for { (syms : SymbolMap) (s : Stack) (earlier : List (List Counted)) (last : List Counted)
+            → IfOk result (AreRowsOf syms (last_events_on_stack syms s earlier last)) }
+        ensures stands_for { (syms : SymbolMap) (s : Stack) (earlier : List (List CountedEvent)) (last : List CountedEvent)
             → StandsFor syms s earlier last (account self.old thread)
             → OnOk result (StandsFor syms s (earlier ++ last ∷ []) [] (account self.new thread)) }
-        ensures still_stands { (syms : SymbolMap) (s : Stack) (earlier : List (List Counted)) (last : List Counted)
+        ensures still_stands { (syms : SymbolMap) (s : Stack) (earlier : List (List CountedEvent)) (last : List CountedEvent)
             → StandsFor syms s earlier last (account self.old thread)
             → OnErr result (StandsFor syms s earlier last (account self.new thread)) }
         ensures bounds { (steps : ℕ) → SumsWithin steps (account self.old thread)
@@ -564,7 +564,7 @@ fn mark_other(ready: Option<ReadyThread>, thread: ThreadNo, active: &mut Active)
 /// The thread at its place, where it is ready.
 fn ready_at(is_ready: bool, thread: ThreadNo, place: Option<usize>) -> Option<ReadyThread>
     ensures remembered { (r : Recording) → (is_ready ≡ true → (knows r thread ≡ true) × IsReady r thread)
-        → place ≡ position (is_of thread) r.threads → IsRemembered r result }
+        → place ≡ position (is_ledger_of thread) r.threads → IsRemembered r result }
     ensures own { (words : List ℕ) → may_have words thread ≡ true → IsMarkedReady result words }
 {
     match place {

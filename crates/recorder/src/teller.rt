@@ -18,7 +18,7 @@ impl ArcSink for Teller<'_> {
 
     ghost can_take = { λ t ts. CanTell t.rows.now ts };
 
-    ghost told = { Tells };
+    ghost takes = { Tells };
 
     fn pushed(&mut self, arc: &ArcKey) {
         self.rows.count_call(arc);

@@ -13,9 +13,9 @@ use Rattle.cg_read.specs.Profiles.{Contents, IsProfile}
 use Rattle.profile_files.specs.Joined.{Joins}
 use Rattle.profile_files.specs.Reading.{IsReading, reading_fault}
 use Rattle.profile_files.specs.declared.fault.ReadFault.{ReadFault}
-use Rattle.profile_run.specs.Guest.{Guest, head_of_run, CanRun}
+use Rattle.profile_run.specs.Program.{Program, head_of_run, CanRun}
 use Rattle.recorder.specs.Rows.{rows_of}
-use Rattle.profile_run.specs.Trace.{Makes, Stop, Taken, steps_of}
+use Rattle.profile_run.specs.Trace.{Makes, Stop, RunStep, steps_of}
 use Rattle.reads_back.specs.Joined.{AreOfOneRun, events_in, first_command, no_rows_of, rows_of_all}
 use Rattle.reads_back.specs.Rows.{IsOfRows}
 use Rattle.reads_back.proofs.AllPartsLemmas.{IsPartText, ReadAs, read_joined}
@@ -43,7 +43,7 @@ first_same (p ∷ parts) = refl
 
 -- ---- of every run
 
-module _ (guest : Guest) (can : CanRun guest) (trace : List Taken) (makes : Makes guest trace) (stop : Stop)
+module _ (guest : Program) (can : CanRun guest) (trace : List RunStep) (makes : Makes guest trace) (stop : Stop)
     (entries : AreEntriesSmall guest.syms) where
   abbrev pub head : PartHead
   head = head_of_run guest
@@ -52,7 +52,7 @@ module _ (guest : Guest) (can : CanRun guest) (trace : List Taken) (makes : Make
   m = guest.syms
 
   abbrev parts : List AddrPart
-  parts = parts_by_address (rows_of m) head m guest.options.base guest.options.asked (steps_of trace)
+  parts = parts_by_address (rows_of m) head m guest.options.base guest.options.dump_points (steps_of trace)
 
   abbrev text : AddrPart → List ℕ
   text p = addr_text p.part.head p.rows m
@@ -74,7 +74,7 @@ module _ (guest : Guest) (can : CanRun guest) (trace : List Taken) (makes : Make
         run = record { object = refl; branch = refl };
         fits = rows_writable guest trace thread segment can makes piece;
         sums = rows_equal_sums guest trace thread segment can makes piece;
-      }) guest.options.asked
+      }) guest.options.dump_points
 
   each_weaker : {X : Type 0} (P Q : X → Type 0) → ((x : X) → P x → Q x) → (xs : List X) → AllByRecursion P xs
       → AllByRecursion Q xs
@@ -109,7 +109,7 @@ module _ (guest : Guest) (can : CanRun guest) (trace : List Taken) (makes : Make
   all = rows_of_all (map as_plain parts)
 
   plain_are : map (λ (p : AddrPart). p.part) parts ≡ parts_written guest trace
-  plain_are = plain_parts_are (rows_of m) head m guest.options.base guest.options.asked (steps_of trace)
+  plain_are = plain_parts_are (rows_of m) head m guest.options.base guest.options.dump_points (steps_of trace)
 
   sums_are : HaveEqualSums (rows_of_run guest trace) all
   sums_are =
@@ -120,7 +120,7 @@ module _ (guest : Guest) (can : CanRun guest) (trace : List Taken) (makes : Make
   texts_are : texts_of_files put ≡ map text parts
   texts_are =
       ap (map (λ (f : Named). f.1))
-      (sym (addr_files_are (rows_of m) head m guest.options.base guest.options.asked (steps_of trace)))
+      (sym (addr_files_are (rows_of m) head m guest.options.base guest.options.dump_points (steps_of trace)))
       ∙ map_map (λ (f : Named). f.1) _ parts
 
   pub texts_again : AllByRecursion (IsPartText head) (texts_of_files put)
@@ -144,7 +144,7 @@ module _ (guest : Guest) (can : CanRun guest) (trace : List Taken) (makes : Make
 
   apart : AreApart put
   apart =
-      apart_as _ put (same_names (rows_of m) head m guest.options.base guest.options.asked (steps_of trace))
+      apart_as _ put (same_names (rows_of m) head m guest.options.base guest.options.dump_points (steps_of trace))
       (names_differ guest can trace makes stop)
 
   module _ (old : Files) (before now : ℕ) where

@@ -9,14 +9,14 @@ use Rattle.outside.specs.Outside.{Named}
 use Rattle.cg_format.specs.declared.trigger.Trigger.{Trigger}
 use Rattle.cg_format.specs.declared.trigger.Trigger.TheVariants.{Termination}
 use Rattle.sym_map.specs.SymbolMap.{SymbolMap}
-use Rattle.shadow_stack.specs.Traces.{Seen}
+use Rattle.shadow_stack.specs.Traces.{EventOnStack}
 use Rattle.arc_costs.specs.Contents.{Listed}
 use Rattle.cg_format.specs.declared.head.PartHead.{PartHead}
 use Rattle.part_dump.specs.Calls.{head_of}
-use Rattle.part_dump.specs.Cuts.{Asked, cuts}
+use Rattle.part_dump.specs.Cuts.{DumpPoints, cuts}
 use Rattle.part_dump.specs.Files.{part_name}
 use Rattle.part_dump.specs.Parts.{files}
-use Rattle.part_dump.specs.Steps.{Step, own_seen, threads, IsPiece}
+use Rattle.part_dump.specs.Steps.{Step, events_on_stack_of, threads, IsPiece}
 use Rattle.part_dump.proofs.CutLemmas.{cuts_together}
 use Rattle.once_each.specs.Parts.{ThreadRows}
 use Rattle.once_each.specs.Written as written
@@ -60,12 +60,12 @@ apart_as xs ys same apart i j d less within e =
     ∙ get_or-map (λ (f : Named). f.0) ys k d in
     apart i j d less (omega (arith, within, long)) (name i ∙ e ∙ sym (name j))
 
-module _ (rows_of : List Seen → Listed) (head : PartHead) (m : SymbolMap) (base : List ℕ) where
+module _ (rows_of : List EventOnStack → Listed) (head : PartHead) (m : SymbolMap) (base : List ℕ) where
   abbrev part_of : ℕ → Trigger → ThreadRows → WrittenPart
   part_of number trigger part = record { head = head_of head number trigger part.thread.0; rows = part.rows }
 
   -- that of a thread; there is none where it has no event in the segment
-  abbrev pub thread_parts : ℕ → Trigger → ℕ → AddrListed → List Seen → List AddrPart
+  abbrev pub thread_parts : ℕ → Trigger → ℕ → AddrListed → List EventOnStack → List AddrPart
   thread_parts number trigger thread rows [] = []
   thread_parts number trigger thread rows (x ∷ xs) =
       record {
@@ -76,14 +76,14 @@ module _ (rows_of : List Seen → Listed) (head : PartHead) (m : SymbolMap) (bas
   abbrev pub segment_parts : List Step → ℕ → List Step → Trigger → List AddrPart
   segment_parts earlier number segment trigger =
       flat_map (λ thread. thread_parts number trigger thread (addr_rows_in m thread earlier segment)
-      (own_seen thread segment)) (threads segment)
+      (events_on_stack_of thread segment)) (threads segment)
 
   abbrev pub parts_from : List Step → ℕ → List Segment → List AddrPart
   parts_from earlier number [] = []
   parts_from earlier number (s ∷ segments) =
       segment_parts earlier number s.0 s.1 ++ parts_from (earlier ++ s.0) (number + 1) segments
 
-  abbrev pub parts_by_address : Asked → List Step → List AddrPart
+  abbrev pub parts_by_address : DumpPoints → List Step → List AddrPart
   parts_by_address asked steps = parts_from [] 1 (segments_of m asked steps)
 
   -- ---- their files
@@ -97,7 +97,7 @@ module _ (rows_of : List Seen → Listed) (head : PartHead) (m : SymbolMap) (bas
   abbrev file : AddrPart → Named
   file p = (name_of p.part, text_of p)
 
-  thread_files_are : (number : ℕ) (trigger : Trigger) (earlier segment : List Step) (thread : ℕ) (xs : List Seen)
+  thread_files_are : (number : ℕ) (trigger : Trigger) (earlier segment : List Step) (thread : ℕ) (xs : List EventOnStack)
       → map file (thread_parts number trigger thread (addr_rows_in m thread earlier segment) xs)
       ≡ by_address.thread_files head m base number trigger thread
       (addr_rows_in m thread earlier segment) xs
@@ -109,10 +109,10 @@ module _ (rows_of : List Seen → Listed) (head : PartHead) (m : SymbolMap) (bas
       ≡ by_address.segment_files head m base earlier number segment trigger
   segment_files_are earlier number segment trigger =
       map_flat file
-      (λ thread. thread_parts number trigger thread (addr_rows_in m thread earlier segment) (own_seen thread segment))
+      (λ thread. thread_parts number trigger thread (addr_rows_in m thread earlier segment) (events_on_stack_of thread segment))
       (λ thread. by_address.thread_files head m base number trigger thread
-      (addr_rows_in m thread earlier segment) (own_seen thread segment))
-      (λ thread. thread_files_are number trigger earlier segment thread (own_seen thread segment)) (threads segment)
+      (addr_rows_in m thread earlier segment) (events_on_stack_of thread segment))
+      (λ thread. thread_files_are number trigger earlier segment thread (events_on_stack_of thread segment)) (threads segment)
 
   -- the last segment stands behind those that cuts end
   files_are : (earlier : List Step) (number last : ℕ) (segments : List Segment) (s : Segment)
@@ -137,7 +137,7 @@ module _ (rows_of : List Seen → Listed) (head : PartHead) (m : SymbolMap) (bas
       ∙ (λ i. (here ++ later) ++ by_address.segment_files head m base
       (append_assoc earlier first.0 (by_address.steps_of head m base segments) i) last s.0 s.1)
 
-  pub addr_files_are : (asked : Asked) (steps : List Step)
+  pub addr_files_are : (asked : DumpPoints) (steps : List Step)
       → map file (parts_by_address asked steps) ≡ addr_files head m base asked steps
   unfolding addr_files
   addr_files_are asked steps =
@@ -150,10 +150,10 @@ module _ (rows_of : List Seen → Listed) (head : PartHead) (m : SymbolMap) (bas
   plain_from number segments =
       flat_map (λ s. map (part_of s.0 s.1.1) (written.segment_parts rows_of s.1.0)) (enumerate_from number segments)
 
-  abbrev pub plain_parts : Asked → List Step → List WrittenPart
+  abbrev pub plain_parts : DumpPoints → List Step → List WrittenPart
   plain_parts asked steps = plain_from 1 (segments_of m asked steps)
 
-  thread_parts_are : (number : ℕ) (trigger : Trigger) (thread : ℕ) (rows : AddrListed) (xs : List Seen)
+  thread_parts_are : (number : ℕ) (trigger : Trigger) (thread : ℕ) (rows : AddrListed) (xs : List EventOnStack)
       → map (λ (p : AddrPart). p.part) (thread_parts number trigger thread rows xs)
       ≡ map (part_of number trigger) (thread_part rows_of thread xs)
   thread_parts_are number trigger thread rows [] = refl
@@ -164,12 +164,12 @@ module _ (rows_of : List Seen → Listed) (head : PartHead) (m : SymbolMap) (bas
       ≡ map (part_of number trigger) (written.segment_parts rows_of segment)
   segment_parts_are earlier number segment trigger =
       map_flat (λ (p : AddrPart). p.part)
-      (λ thread. thread_parts number trigger thread (addr_rows_in m thread earlier segment) (own_seen thread segment))
-      (λ thread. map (part_of number trigger) (thread_part rows_of thread (own_seen thread segment)))
+      (λ thread. thread_parts number trigger thread (addr_rows_in m thread earlier segment) (events_on_stack_of thread segment))
+      (λ thread. map (part_of number trigger) (thread_part rows_of thread (events_on_stack_of thread segment)))
       (λ thread. thread_parts_are number trigger thread (addr_rows_in m thread earlier segment)
-      (own_seen thread segment)) (threads segment)
-      ∙ sym (map_flat (part_of number trigger) (λ thread. thread_part rows_of thread (own_seen thread segment))
-      (λ thread. map (part_of number trigger) (thread_part rows_of thread (own_seen thread segment)))
+      (events_on_stack_of thread segment)) (threads segment)
+      ∙ sym (map_flat (part_of number trigger) (λ thread. thread_part rows_of thread (events_on_stack_of thread segment))
+      (λ thread. map (part_of number trigger) (thread_part rows_of thread (events_on_stack_of thread segment)))
       (λ thread. refl) (threads segment))
 
   parts_are : (earlier : List Step) (number : ℕ) (segments : List Segment)
@@ -180,13 +180,13 @@ module _ (rows_of : List Seen → Listed) (head : PartHead) (m : SymbolMap) (bas
       (parts_from (earlier ++ s.0) (number + 1) segments)
       ∙ (λ i. segment_parts_are earlier number s.0 s.1 i ++ parts_are (earlier ++ s.0) (number + 1) segments i)
 
-  pub plain_parts_are : (asked : Asked) (steps : List Step)
+  pub plain_parts_are : (asked : DumpPoints) (steps : List Step)
       → map (λ (p : AddrPart). p.part) (parts_by_address asked steps) ≡ plain_parts asked steps
   plain_parts_are asked steps = parts_are [] 1 (segments_of m asked steps)
 
   -- ---- their names
 
-  plain_named : (asked : Asked) (steps : List Step)
+  plain_named : (asked : DumpPoints) (steps : List Step)
       → map (λ (f : Named). f.0) (files rows_of head m base asked steps) ≡ map name_of (plain_parts asked steps)
   plain_named asked steps =
       ap (map (λ (f : Named). f.0)) (run_files rows_of head m base asked steps)
@@ -203,7 +203,7 @@ module _ (rows_of : List Seen → Listed) (head : PartHead) (m : SymbolMap) (bas
       (λ s. map_map name_of (part_of s.0 s.1.1) (written.segment_parts rows_of s.1.0))
       (enumerate_from 1 (segments_of m asked steps)))
 
-  pub same_names : (asked : Asked) (steps : List Step)
+  pub same_names : (asked : DumpPoints) (steps : List Step)
       → map (λ (f : Named). f.0) (files rows_of head m base asked steps)
       ≡ map (λ (f : Named). f.0) (addr_files head m base asked steps)
   same_names asked steps =
@@ -221,13 +221,13 @@ module _ (rows_of : List Seen → Listed) (head : PartHead) (m : SymbolMap) (bas
   pub each_part : (P : AddrPart → Type 0) (steps : List Step)
       → ((number : ℕ) (trigger : Trigger) (thread : ℕ) (segment : List Step) (piece : IsPiece steps segment)
       → P (record {
-        part = record { head = head_of head number trigger thread; rows = rows_of (own_seen thread segment) };
+        part = record { head = head_of head number trigger thread; rows = rows_of (events_on_stack_of thread segment) };
         rows = addr_rows_in m thread piece.before segment;
       }))
-      → (asked : Asked) → AllByRecursion P (parts_by_address asked steps)
+      → (asked : DumpPoints) → AllByRecursion P (parts_by_address asked steps)
   each_part P steps so asked = all_from [] 1 (segments_of m asked steps) (whole_run asked)
     where
-      whole_run : (asked : Asked) → flat (segments_of m asked steps) ≡ steps
+      whole_run : (asked : DumpPoints) → flat (segments_of m asked steps) ≡ steps
       whole_run asked =
           let closed = (cuts m asked steps).closed in
           let recent = (cuts m asked steps).recent in
@@ -235,11 +235,11 @@ module _ (rows_of : List Seen → Listed) (head : PartHead) (m : SymbolMap) (bas
           ∙ ap (λ xs. flat_map (λ (s : Segment). s.0) closed ++ xs) (append-nil recent) ∙ cuts_together m asked steps
 
       of_thread : (number : ℕ) (trigger : Trigger) (thread : ℕ) (segment : List Step) (piece : IsPiece steps segment)
-          (xs : List Seen) → own_seen thread segment ≡ xs
+          (xs : List EventOnStack) → events_on_stack_of thread segment ≡ xs
           → AllByRecursion P (thread_parts number trigger thread (addr_rows_in m thread piece.before segment) xs)
       of_thread number trigger thread segment piece [] own = tt
       of_thread number trigger thread segment piece (x ∷ xs) own = (
-        subst (λ (ys : List Seen). P (record {
+        subst (λ (ys : List EventOnStack). P (record {
           part = record { head = head_of head number trigger thread; rows = rows_of ys };
           rows = addr_rows_in m thread piece.before segment;
         })) own (so number trigger thread segment piece),
@@ -251,8 +251,8 @@ module _ (rows_of : List Seen → Listed) (head : PartHead) (m : SymbolMap) (bas
       of_segment number trigger segment piece =
           each_flat P
           (λ thread. thread_parts number trigger thread (addr_rows_in m thread piece.before segment)
-          (own_seen thread segment))
-          (λ thread. of_thread number trigger thread segment piece (own_seen thread segment) refl) (threads segment)
+          (events_on_stack_of thread segment))
+          (λ thread. of_thread number trigger thread segment piece (events_on_stack_of thread segment) refl) (threads segment)
 
       all_from : (earlier : List Step) (number : ℕ) (segments : List Segment) → earlier ++ flat segments ≡ steps
           → AllByRecursion P (parts_from earlier number segments)

@@ -9,7 +9,7 @@ use Rattle.std.proofs.lemmas.List.{map-append, reverse-append, reverse-reverse}
 use Rattle.event_costs.specs.Costs.{event_names, events_shown}
 use Rattle.sym_map.specs.SymbolMap.{IsSound, SymbolMap}
 use Rattle.cg_format.specs.Heading.{description_lines, identity_lines, totals}
-use Rattle.cg_format.specs.Marks.{Mark, Plain, cost_text, spaced, spelled, text_of}
+use Rattle.cg_format.specs.Marks.{Mark, Plain, cost_text, words_text, mark_text, text_of}
 use Rattle.cg_format.specs.Part.{after_row as after_plain_row}
 use Rattle.cg_format.specs.Rows.{below}
 use Rattle.cg_format.specs.Sums.{sum_of_lines}
@@ -20,7 +20,7 @@ use Rattle.cg_read.specs.AddressReading.{first_positions, is_addr_file}
 use Rattle.cg_read.specs.AddressReading.{lines_said}
 use Rattle.cg_read.specs.AddressReading.{positions_in}
 use Rattle.cg_read.specs.Addresses as addresses
-use Rattle.cg_read.specs.Addresses.{address_fault, bare, base}
+use Rattle.cg_read.specs.Addresses.{address_fault, without_addresses, base}
 use Rattle.cg_lines.specs.Addressed.{addressed_of, addressed_shape, alone}
 use Rattle.cg_read.specs.Faults.{error_at}
 use Rattle.cg_lines.specs.Lines.{lines}
@@ -39,7 +39,7 @@ use Rattle.key_tables.specs.Same.{both_true}
 use Rattle.addr_rows.specs.Known.{IsKnownArc, IsKnownLine}
 use Rattle.addr_rows.specs.Plain.{plain, plain_arc, plain_line}
 use Rattle.addr_rows.specs.Rows.{AddrListed}
-use Rattle.addr_rows.specs.Texts.{addr_lines, addr_text, after_row, all_rows, by_function, is_of, plain_row}
+use Rattle.addr_rows.specs.Texts.{addr_lines, addr_text, after_row, all_rows, by_function, is_row_of, plain_row}
 use Rattle.addr_rows.specs.declared.row.AddrRow.{AddrRow}
 use Rattle.addr_rows.specs.declared.row.AddrRow.TheVariants.{Arc, Line}
 use Rattle.addr_rows.specs.declared.rows.AddrArc.{AddrArc}
@@ -48,12 +48,12 @@ use Rattle.once_each.specs.Texts.{named_arc, named_line}
 use Rattle.reads_back.specs.Rows.{FitsArc, FitsLine, IsOfRows, arcs_read, command_of, lines_read, naming}
 use Rattle.reads_back.proofs.EntryLemmas.{CanWrite, Standing, calls_of, selfs_of}
 use Rattle.reads_back.proofs.HeadingLemmas.{after_heading_at, heading_at, heading_clear, heading_read, heading_same, literal, says, says_totals}
-use Rattle.reads_back.proofs.LineLemmas.{AreClear, all_clear, history_is, read, split_joined, text_is, texts_of}
+use Rattle.reads_back.proofs.LineLemmas.{AreClear, all_clear, history_is, lines_of_marks, split_joined, text_is, texts_of}
 use Rattle.reads_back.proofs.PartLemmas as parts
 use Rattle.reads_back.proofs.ShapeLemmas.{Spells}
 use Rattle.reads_back.proofs.TextLemmas.{stripped_kept}
 use Rattle.report_laws.specs.Rows.{AreEntriesSmall, AreWritable, IsOfAddrRows}
-use Rattle.report_laws.proofs.BesideLemmas.{AreFine, Beside, addr_read, begun, step_quiet}
+use Rattle.report_laws.proofs.BesideLemmas.{AreFine, Beside, addr_read, first_positions_of, step_quiet}
 use Rattle.report_laws.proofs.AddrRowLemmas.{CanWriteAt, after_rows, arc_address, arc_part, arcs_written, can_write}
 use Rattle.report_laws.proofs.AddrRowLemmas.{line_address, line_part, lines_written}
 use Rattle.report_laws.proofs.SayLemmas.{is_quiet, says_alone}
@@ -107,16 +107,16 @@ arcs_can m (row ∷ rows) known fits small = (
 -- ---- histories
 
 -- no line is bad, where none is without its address, and none stands too early
-all_fine : (before : List AddressedLine) → AreFine before → bad_line (bare before) ≡ None
+all_fine : (before : List AddressedLine) → AreFine before → bad_line (without_addresses before) ≡ None
     → addressed.bad_line before ≡ None
 all_fine [] fine none = refl
 all_fine (a ∷ before) fine none =
-    let both = parted (bad_line (bare before)) (option_map (error_at (length (bare before) + 1))
-    (meaning.fault (bare before) a.line)) none in
-    let alone_none : meaning.fault (bare before) a.line ≡ None
-    = unmapped (error_at (length (bare before) + 1)) (meaning.fault (bare before) a.line) both.1 in
+    let both = parted (bad_line (without_addresses before)) (option_map (error_at (length (without_addresses before) + 1))
+    (meaning.fault (without_addresses before) a.line)) none in
+    let alone_none : meaning.fault (without_addresses before) a.line ≡ None
+    = unmapped (error_at (length (without_addresses before) + 1)) (meaning.fault (without_addresses before) a.line) both.1 in
     let fault_none : addresses.fault before a ≡ None
-    = ap (λ (o : Option Fault). or_else o (or_else (meaning.fault (bare before) a.line)
+    = ap (λ (o : Option Fault). or_else o (or_else (meaning.fault (without_addresses before) a.line)
     (address_fault (base before) a.address))) fine.0
     ∙ ap (λ (o : Option Fault). or_else o (address_fault (base before) a.address)) alone_none
     ∙ fine.1 (base before) in
@@ -147,7 +147,7 @@ positions_push (x ∷ ls) l =
     ap (or_else (positions_in x)) (positions_push ls l)
     ∙ sym (or_else_assoc (positions_in x) (first_positions ls) (positions_in l))
 
-positions_back : (ls : List ReadLine) → first_positions (reverse ls) ≡ begun ls
+positions_back : (ls : List ReadLine) → first_positions (reverse ls) ≡ first_positions_of ls
 positions_back [] = refl
 positions_back (l ∷ ls) =
     ap first_positions (reverse-append (l ∷ []) ls) ∙ positions_push (reverse ls) l
@@ -156,9 +156,9 @@ positions_back (l ∷ ls) =
 addr_read_is : (m : SymbolMap) (marks : List Mark) → addressed.history_of (texts_of m marks) ≡ addr_read m marks
 addr_read_is m [] = refl
 addr_read_is m (mark ∷ before) =
-    ap reverse (map-append addressed_of (texts_of m before) (spelled m before mark ∷ []))
-    ∙ reverse-append (map addressed_of (texts_of m before)) (addressed_of (spelled m before mark) ∷ [])
-    ∙ ap (λ (ls : List AddressedLine). addressed_of (spelled m before mark) ∷ ls) (addr_read_is m before)
+    ap reverse (map-append addressed_of (texts_of m before) (mark_text m before mark ∷ []))
+    ∙ reverse-append (map addressed_of (texts_of m before)) (addressed_of (mark_text m before mark) ∷ [])
+    ∙ ap (λ (ls : List AddressedLine). addressed_of (mark_text m before mark) ∷ ls) (addr_read_is m before)
 
 -- the last line feed is followed by an empty line
 addr_history_is : (m : SymbolMap) (marks : List Mark) → AreClear m marks
@@ -172,15 +172,15 @@ addr_history_is m marks clear =
 
 -- the first line on positions
 positions_of : (m : SymbolMap) (marks : List Mark) → AreClear m marks
-    → first_positions (map line_of (lines (text_of m marks))) ≡ begun (read m marks)
+    → first_positions (map line_of (lines (text_of m marks))) ≡ first_positions_of (lines_of_marks m marks)
 positions_of m marks clear =
     ap first_positions
     (sym (reverse-reverse (map line_of (lines (text_of m marks)))) ∙ ap reverse (history_is m marks clear))
-    ∙ positions_back (kind.Blank ∷ read m marks) ∙ or_else_none (begun (read m marks))
+    ∙ positions_back (kind.Blank ∷ lines_of_marks m marks) ∙ or_else_none (first_positions_of (lines_of_marks m marks))
 
 -- ---- the heading
 
-alone_all : (m : SymbolMap) (texts : List (List ℕ)) (ls : List ReadLine) → read m (map Plain texts) ≡ ls
+alone_all : (m : SymbolMap) (texts : List (List ℕ)) (ls : List ReadLine) → lines_of_marks m (map Plain texts) ≡ ls
     → list_all is_quiet ls ≡ true → addr_read m (map Plain texts) ≡ map alone ls
 alone_all m [] [] said quiet = refl
 alone_all m [] (l ∷ ls) said quiet = absurd (cc)
@@ -218,7 +218,7 @@ module _ (head : PartHead) (m : SymbolMap) (sum : List ℕ) where
   abbrev said : List ReadLine
   said = heading_read head.branch head.cmd (codes "line")
 
-  heading_said : read m start ≡ heading_read head.branch head.cmd (codes " instr line")
+  heading_said : lines_of_marks m start ≡ heading_read head.branch head.cmd (codes " instr line")
   heading_said = heading_same head m sum (codes "positions: instr line") (codes " instr line") says_two
 
   abbrev first_texts : List (List ℕ)
@@ -230,8 +230,8 @@ module _ (head : PartHead) (m : SymbolMap) (sum : List ℕ) where
     clear = heading_clear head m sum (codes "positions: instr line") (codes " instr line") says_two;
     same = λ i.
         alone_all m ((codes "summary:" ++ cost_text (events_shown head.branch sum))
-        ∷ (codes "events:" ++ spaced (events_shown head.branch event_names)) ∷ [])
-        (kind.Header ∷ kind.Events (spaced (events_shown head.branch event_names)) ∷ []) (ap (take 2) heading_said)
+        ∷ (codes "events:" ++ words_text (events_shown head.branch event_names)) ∷ [])
+        (kind.Header ∷ kind.Events (words_text (events_shown head.branch event_names)) ∷ []) (ap (take 2) heading_said)
         refl i
         ++ two_said i ∷ alone_all m first_texts (drop 3 said) (ap (drop 3) heading_said)
         refl i;
@@ -245,7 +245,7 @@ module _ (head : PartHead) (m : SymbolMap) (sum : List ℕ) where
     fine = alone_fine said;
     self_rows = refl;
     call_rows = refl;
-    positions = ap begun heading_said;
+    positions = ap first_positions_of heading_said;
   }
 
 -- ---- the part
@@ -260,10 +260,10 @@ module _ (head : PartHead) (rows : AddrListed) (m : SymbolMap) (sound : IsSound 
 
   can : AllByRecursion (CanWriteAt m) written
   can =
-      each_group (CanWriteAt m) is_of (all_rows rows) (below (length m.functions))
+      each_group (CanWriteAt m) is_row_of (all_rows rows) (below (length m.functions))
       (all_append (CanWriteAt m) (map Line rows.lines) (map Arc rows.arcs)
-      (lines_can m rows.lines fits.known.lines fits.lines_fit fits.line_addresses)
-      (arcs_can m rows.arcs fits.known.arcs fits.arcs_fit fits.arc_addresses))
+      (lines_can m rows.lines fits.of_map.lines fits.lines_fit fits.line_addresses)
+      (arcs_can m rows.arcs fits.of_map.arcs fits.arcs_fit fits.arc_addresses))
 
   -- the same lines without addresses
   abbrev plain_marks : List Mark
@@ -272,10 +272,10 @@ module _ (head : PartHead) (rows : AddrListed) (m : SymbolMap) (sound : IsSound 
       ∷ fold (after_plain_row head m) (plain_start head m sum) (map plain_row written)
 
   lines_are : {Y : Type 0} (f : AddrLine → Y) → flat_map (line_part f) written ≡ map f rows.lines
-  lines_are f = lines_written (length m.functions) rows f fits.lines_rise (λ k d lt. (fits.known.lines k d lt).function)
+  lines_are f = lines_written (length m.functions) rows f fits.lines_rise (λ k d lt. (fits.of_map.lines k d lt).function)
 
   arcs_are : {Y : Type 0} (f : AddrArc → Y) → flat_map (arc_part f) written ≡ map f rows.arcs
-  arcs_are f = arcs_written (length m.functions) rows f fits.arcs_rise (λ k d lt. (fits.known.arcs k d lt).caller)
+  arcs_are f = arcs_written (length m.functions) rows f fits.arcs_rise (λ k d lt. (fits.of_map.arcs k d lt).caller)
 
   selfs_are : flat_map (selfs_of head m) (map plain_row written) ≡ lines_read head m (plain rows).lines
   selfs_are =
@@ -343,7 +343,7 @@ module _ (head : PartHead) (rows : AddrListed) (m : SymbolMap) (sound : IsSound 
   abbrev plain_end : List ReadLine
   plain_end = parts.end_history head (plain rows) m plain_marks whole
 
-  bare_is : bare end_history ≡ plain_end
+  bare_is : without_addresses end_history ≡ plain_end
   bare_is = ap (λ (ls : List ReadLine). kind.Blank ∷ ls) (beside.lines ∙ whole.1.same)
 
   -- the text is of a part whose positions have two parts
@@ -353,9 +353,9 @@ module _ (head : PartHead) (rows : AddrListed) (m : SymbolMap) (sound : IsSound 
 
   pub sound_text : addressed.first_bad (addr_text head rows m) ≡ None
   sound_text =
-      subst (λ (h : List AddressedLine). or_else (addressed.bad_line h) (end_fault (bare h)) ≡ None)
+      subst (λ (h : List AddressedLine). or_else (addressed.bad_line h) (end_fault (without_addresses h)) ≡ None)
       (sym history_at_end)
-      (ap (λ (o : Option FormatError). or_else o (end_fault (bare end_history)))
+      (ap (λ (o : Option FormatError). or_else o (end_fault (without_addresses end_history)))
       (all_fine end_history (refl, λ n. refl, beside.fine)
       (ap bad_line bare_is ∙ parts.lines_fine head (plain rows) m plain_marks whole))
       ∙ ap end_fault bare_is ∙ parts.end_fine head (plain rows) m plain_marks whole)
@@ -402,14 +402,14 @@ module _ (head : PartHead) (rows : AddrListed) (m : SymbolMap) (sound : IsSound 
   only_lines p reads =
       parts.rows_said head (plain rows) m plain_marks whole p
       (subst (λ (h : List ReadLine). Says h p)
-      (ap (λ b. cond b (bare (addressed.history (addr_text head rows m))) (history (addr_text head rows m))) is_file
-      ∙ ap bare history_at_end ∙ bare_is) reads.says)
+      (ap (λ b. cond b (without_addresses (addressed.history (addr_text head rows m))) (history (addr_text head rows m))) is_file
+      ∙ ap without_addresses history_at_end ∙ bare_is) reads.says)
 
   -- the events that it shows
   pub events_are : unwrap_or (meaning.events (lines_said (addr_text head rows m))) []
       ≡ events_shown head.branch event_names
   events_are =
       ap (λ (h : List ReadLine). unwrap_or (meaning.events h) [])
-      (ap (λ b. cond b (bare (addressed.history (addr_text head rows m))) (history (addr_text head rows m))) is_file
-      ∙ ap bare history_at_end ∙ bare_is)
+      (ap (λ b. cond b (without_addresses (addressed.history (addr_text head rows m))) (history (addr_text head rows m))) is_file
+      ∙ ap without_addresses history_at_end ∙ bare_is)
       ∙ ap (λ (o : Option (List (List ℕ))). unwrap_or o []) whole.1.events

@@ -18,7 +18,7 @@ use Rattle.cg_format.proofs.RowLemmas.{grouped}
 use Rattle.addr_rows.specs.Known.{IsKnownArc, IsKnownLine}
 use Rattle.addr_rows.specs.Plain.{plain_arc, plain_line}
 use Rattle.addr_rows.specs.Rows.{AddrListed}
-use Rattle.addr_rows.specs.Texts.{after_row, all_rows, by_function, entry_position, is_of, plain_row, position}
+use Rattle.addr_rows.specs.Texts.{after_row, all_rows, by_function, entry_position, is_row_of, plain_row, position}
 use Rattle.addr_rows.specs.declared.row.AddrRow.{AddrRow}
 use Rattle.addr_rows.specs.declared.row.AddrRow.TheVariants.{Arc, Line}
 use Rattle.addr_rows.specs.declared.rows.AddrArc.{AddrArc}
@@ -160,23 +160,23 @@ abbrev arc_at : ℕ → AddrArc → Bool
 arc_at k row = row.arc.caller.0 == k
 
 module _ {Y : Type 0} (f : AddrLine → Y) (k : ℕ) where
-  lines_of_arcs : (arcs : List AddrArc) → flat_map (line_part f) (filter (is_of k) (map Arc arcs)) ≡ []
+  lines_of_arcs : (arcs : List AddrArc) → flat_map (line_part f) (filter (is_row_of k) (map Arc arcs)) ≡ []
   lines_of_arcs [] = refl
-  lines_of_arcs (row ∷ arcs) = go (is_of k (Arc row)) (lines_of_arcs arcs)
+  lines_of_arcs (row ∷ arcs) = go (is_row_of k (Arc row)) (lines_of_arcs arcs)
     where
-      go : (b : Bool) → flat_map (line_part f) (filter (is_of k) (map Arc arcs)) ≡ []
+      go : (b : Bool) → flat_map (line_part f) (filter (is_row_of k) (map Arc arcs)) ≡ []
           → flat_map (line_part f)
-          (cond b (Arc row ∷ filter (is_of k) (map Arc arcs)) (filter (is_of k) (map Arc arcs))) ≡ []
+          (cond b (Arc row ∷ filter (is_row_of k) (map Arc arcs)) (filter (is_row_of k) (map Arc arcs))) ≡ []
       go true rest = rest
       go false rest = rest
 
   lines_of_all : (lines : List AddrLine) (arcs : List AddrArc)
-      → flat_map (line_part f) (filter (is_of k) (map Line lines ++ map Arc arcs)) ≡ map f (filter (line_at k) lines)
+      → flat_map (line_part f) (filter (is_row_of k) (map Line lines ++ map Arc arcs)) ≡ map f (filter (line_at k) lines)
   lines_of_all [] arcs = lines_of_arcs arcs
   lines_of_all (row ∷ lines) arcs = go (line_at k row) (lines_of_all lines arcs)
     where
       rest_of : List AddrRow
-      rest_of = filter (is_of k) (map Line lines ++ map Arc arcs)
+      rest_of = filter (is_row_of k) (map Line lines ++ map Arc arcs)
 
       go : (b : Bool) → flat_map (line_part f) rest_of ≡ map f (filter (line_at k) lines)
           → flat_map (line_part f) (cond b (Line row ∷ rest_of) rest_of)
@@ -186,24 +186,24 @@ module _ {Y : Type 0} (f : AddrLine → Y) (k : ℕ) where
 
 module _ {Y : Type 0} (f : AddrArc → Y) (k : ℕ) where
   arcs_of_arcs : (arcs : List AddrArc)
-      → flat_map (arc_part f) (filter (is_of k) (map Arc arcs)) ≡ map f (filter (arc_at k) arcs)
+      → flat_map (arc_part f) (filter (is_row_of k) (map Arc arcs)) ≡ map f (filter (arc_at k) arcs)
   arcs_of_arcs [] = refl
   arcs_of_arcs (row ∷ arcs) = go (arc_at k row) (arcs_of_arcs arcs)
     where
-      go : (b : Bool) → flat_map (arc_part f) (filter (is_of k) (map Arc arcs)) ≡ map f (filter (arc_at k) arcs)
+      go : (b : Bool) → flat_map (arc_part f) (filter (is_row_of k) (map Arc arcs)) ≡ map f (filter (arc_at k) arcs)
           → flat_map (arc_part f)
-          (cond b (Arc row ∷ filter (is_of k) (map Arc arcs)) (filter (is_of k) (map Arc arcs)))
+          (cond b (Arc row ∷ filter (is_row_of k) (map Arc arcs)) (filter (is_row_of k) (map Arc arcs)))
           ≡ map f (cond b (row ∷ filter (arc_at k) arcs) (filter (arc_at k) arcs))
       go true rest = ap (λ ys. f row ∷ ys) rest
       go false rest = rest
 
   arcs_of_all : (lines : List AddrLine) (arcs : List AddrArc)
-      → flat_map (arc_part f) (filter (is_of k) (map Line lines ++ map Arc arcs)) ≡ map f (filter (arc_at k) arcs)
+      → flat_map (arc_part f) (filter (is_row_of k) (map Line lines ++ map Arc arcs)) ≡ map f (filter (arc_at k) arcs)
   arcs_of_all [] arcs = arcs_of_arcs arcs
   arcs_of_all (row ∷ lines) arcs = go (line_at k row) (arcs_of_all lines arcs)
     where
       rest_of : List AddrRow
-      rest_of = filter (is_of k) (map Line lines ++ map Arc arcs)
+      rest_of = filter (is_row_of k) (map Line lines ++ map Arc arcs)
 
       go : (b : Bool) → flat_map (arc_part f) rest_of ≡ map f (filter (arc_at k) arcs)
           → flat_map (arc_part f) (cond b (Line row ∷ rest_of) rest_of) ≡ map f (filter (arc_at k) arcs)
@@ -215,8 +215,8 @@ module _ {Y : Type 0} (n : ℕ) (rows : AddrListed) where
       → All (λ (row : AddrLine). row.place.func.0 < n) rows.lines
       → flat_map (line_part f) (by_function n (all_rows rows)) ≡ map f rows.lines
   lines_written f rise small =
-      flat_map_twice (line_part f) (λ k. filter (is_of k) (all_rows rows)) (below n)
-      ∙ flat_map_alike (λ k. flat_map (line_part f) (filter (is_of k) (all_rows rows)))
+      flat_map_twice (line_part f) (λ k. filter (is_row_of k) (all_rows rows)) (below n)
+      ∙ flat_map_alike (λ k. flat_map (line_part f) (filter (is_row_of k) (all_rows rows)))
       (λ k. map f (filter (line_at k) rows.lines)) (λ k. lines_of_all f k rows.lines rows.arcs) (below n)
       ∙ flat_map_mapped f (λ k. filter (line_at k) rows.lines) (below n)
       ∙ ap (map f) (sym (grouped (λ (row : AddrLine). row.place.func.0) n rows.lines rise small))
@@ -225,8 +225,8 @@ module _ {Y : Type 0} (n : ℕ) (rows : AddrListed) where
       → All (λ (row : AddrArc). row.arc.caller.0 < n) rows.arcs
       → flat_map (arc_part f) (by_function n (all_rows rows)) ≡ map f rows.arcs
   arcs_written f rise small =
-      flat_map_twice (arc_part f) (λ k. filter (is_of k) (all_rows rows)) (below n)
-      ∙ flat_map_alike (λ k. flat_map (arc_part f) (filter (is_of k) (all_rows rows)))
+      flat_map_twice (arc_part f) (λ k. filter (is_row_of k) (all_rows rows)) (below n)
+      ∙ flat_map_alike (λ k. flat_map (arc_part f) (filter (is_row_of k) (all_rows rows)))
       (λ k. map f (filter (arc_at k) rows.arcs)) (λ k. arcs_of_all f k rows.lines rows.arcs) (below n)
       ∙ flat_map_mapped f (λ k. filter (arc_at k) rows.arcs) (below n)
       ∙ ap (map f) (sym (grouped (λ (row : AddrArc). row.arc.caller.0) n rows.arcs rise small))

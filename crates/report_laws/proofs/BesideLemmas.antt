@@ -8,8 +8,8 @@ use Rattle.event_costs.specs.declared.numbers.FileId.{FileId}
 use Rattle.event_costs.specs.declared.numbers.FuncId.{FuncId}
 use Rattle.sym_map.specs.SymbolMap.{IsFile, IsFunc, IsSound, SymbolMap, file_text, home_of, identity_of}
 use Rattle.cg_format.specs.Heading.{object_line}
-use Rattle.cg_format.specs.Marks.{Mark, Plain, File, Function, Callee, Calls, Costs, added, cost_text, files, functions}
-use Rattle.cg_format.specs.Marks.{key_text, named, spelled}
+use Rattle.cg_format.specs.Marks.{Mark, Plain, File, Function, Callee, Calls, Costs, add_number, cost_text, files, functions}
+use Rattle.cg_format.specs.Marks.{key_text, id_text, mark_text}
 use Rattle.cg_format.specs.Part.{at_row, current_file, current_function, in_file, in_function, in_object, is_file}
 use Rattle.cg_format.specs.Part.{is_function, place_key}
 use Rattle.cg_format.specs.Rows.{file_of, function_of}
@@ -18,7 +18,7 @@ use Rattle.cg_format.specs.declared.file_key.FileKey.TheVariants.{Home, Other, B
 use Rattle.cg_format.specs.declared.head.PartHead.{PartHead}
 use Rattle.cg_format.specs.declared.row.Row.{Row}
 use Rattle.cg_read.specs.AddressReading.{positions_in}
-use Rattle.cg_read.specs.Addresses.{address_at, address_fault, address_if, bare, base}
+use Rattle.cg_read.specs.Addresses.{address_at, address_fault, address_if, without_addresses, base}
 use Rattle.cg_lines.specs.Addressed.{addressed_of, alone}
 use Rattle.cg_read.specs.Addresses.{call_addresses, has_positions, is_early, order_fault}
 use Rattle.cg_lines.specs.Shapes.{is_cost, is_positions}
@@ -32,10 +32,10 @@ use Rattle.cg_lines.specs.declared.line.Line.{Line}
 use Rattle.cg_lines.specs.declared.line.Line.TheVariants as kind
 use Rattle.cg_lines.specs.declared.name.Name.{Name}
 use Rattle.cg_lines.specs.declared.number.Number.TheVariants.{Fits}
-use Rattle.cg_lines.specs.declared.place.Place.TheVariants.{At}
+use Rattle.cg_lines.specs.declared.sub_position.SubPosition.TheVariants.{At}
 use Rattle.addr_rows.specs.Texts.{position}
 use Rattle.reads_back.proofs.HeadingLemmas.{says_object}
-use Rattle.reads_back.proofs.LineLemmas.{AreClear, read}
+use Rattle.reads_back.proofs.LineLemmas.{AreClear, lines_of_marks}
 use Rattle.reads_back.proofs.ShapeLemmas.{Spells, costs_read, file_line, spells_callee, spells_calls, spells_costs, spells_file, spells_function}
 use Rattle.reads_back.proofs.StandingLemmas.{file_is_name, function_is_name}
 use Rattle.report_laws.proofs.SayLemmas.{is_quiet, says_alone, says_calls, says_costs}
@@ -43,7 +43,7 @@ use Rattle.report_laws.proofs.SayLemmas.{is_quiet, says_alone, says_calls, says_
 -- what the lines say with their addresses, the newest first
 abbrev pub addr_read : SymbolMap → List Mark → List AddressedLine
 addr_read m [] = []
-addr_read m (mark ∷ before) = addressed_of (spelled m before mark) ∷ addr_read m before
+addr_read m (mark ∷ before) = addressed_of (mark_text m before mark) ∷ addr_read m before
 
 -- no line stands too early, and each address is a number of 64 bits
 abbrev pub AreFine : List AddressedLine → Type 0
@@ -52,9 +52,9 @@ AreFine (a ∷ before) =
     (order_fault (is_early before a) ≡ None) × ((n : ℕ) → address_fault n a.address ≡ None) × AreFine before
 
 -- the words of the first line on positions, where the newest line stands first
-abbrev pub begun : List Line → Option (List (List ℕ))
-begun [] = None
-begun (l ∷ before) = or_else (begun before) (positions_in l)
+abbrev pub first_positions_of : List Line → Option (List (List ℕ))
+first_positions_of [] = None
+first_positions_of (l ∷ before) = or_else (first_positions_of before) (positions_in l)
 
 -- Lines by address, and the same lines without addresses: they name the same files and functions, no call waits for its
 -- cost line, and rows with these addresses were read.
@@ -62,17 +62,17 @@ pub record Beside (m : SymbolMap) (marks plain : List Mark) (selfs calls : List 
   pub history : List AddressedLine
   pub clear : AreClear m marks
   pub same : addr_read m marks ≡ history
-  pub lines : bare history ≡ read m plain
+  pub lines : without_addresses history ≡ lines_of_marks m plain
   pub files_are : files marks ≡ files plain
   pub functions_are : functions marks ≡ functions plain
   pub file : current_file marks ≡ current_file plain
   pub function : current_function marks ≡ current_function plain
-  pub closed : open_call (bare history) ≡ None
+  pub closed : open_call (without_addresses history) ≡ None
   pub placed : has_positions history ≡ true
   pub fine : AreFine history
   pub self_rows : self_addresses history ≡ selfs
   pub call_rows : call_addresses history ≡ calls
-  pub positions : begun (read m marks) ≡ Some two_parts
+  pub positions : first_positions_of (lines_of_marks m marks) ≡ Some two_parts
 
 -- ---- lines without a position
 
@@ -132,15 +132,15 @@ not_early : (a : AddressedLine) (before : List AddressedLine) → has_positions 
     → order_fault (is_early before a) ≡ None
 not_early a before placed =
     ap order_fault
-    (ap (λ b. is_some a.address && (is_some (events (bare before)) && not b)) placed
-    ∙ ap (λ b. is_some a.address && b) (and-false (is_some (events (bare before)))) ∙ and-false (is_some a.address))
+    (ap (λ b. is_some a.address && (is_some (events (without_addresses before)) && not b)) placed
+    ∙ ap (λ b. is_some a.address && b) (and-false (is_some (events (without_addresses before)))) ∙ and-false (is_some a.address))
 
 -- ---- what a line does to what was written
 
 alike_files : (mark : Mark) (marks plain : List Mark) → files marks ≡ files plain
     → files (mark ∷ marks) ≡ files (mark ∷ plain)
 alike_files (Plain text) marks plain e = e
-alike_files (File key f) marks plain e = ap (λ xs. added xs f.0) e
+alike_files (File key f) marks plain e = ap (λ xs. add_number xs f.0) e
 alike_files (Function f) marks plain e = e
 alike_files (Callee f) marks plain e = e
 alike_files (Calls n at) marks plain e = e
@@ -150,8 +150,8 @@ alike_functions : (mark : Mark) (marks plain : List Mark) → functions marks �
     → functions (mark ∷ marks) ≡ functions (mark ∷ plain)
 alike_functions (Plain text) marks plain e = e
 alike_functions (File key f) marks plain e = e
-alike_functions (Function f) marks plain e = ap (λ xs. added xs f.0) e
-alike_functions (Callee f) marks plain e = ap (λ xs. added xs f.0) e
+alike_functions (Function f) marks plain e = ap (λ xs. add_number xs f.0) e
+alike_functions (Callee f) marks plain e = ap (λ xs. add_number xs f.0) e
 alike_functions (Calls n at) marks plain e = e
 alike_functions (Costs at costs) marks plain e = e
 
@@ -177,11 +177,11 @@ alike_function (Calls n at) marks plain e = e
 alike_function (Costs at costs) marks plain e = e
 
 alike_spelled : (m : SymbolMap) (mark : Mark) (marks plain : List Mark) → files marks ≡ files plain
-    → functions marks ≡ functions plain → spelled m marks mark ≡ spelled m plain mark
+    → functions marks ≡ functions plain → mark_text m marks mark ≡ mark_text m plain mark
 alike_spelled m (Plain text) marks plain fs gs = refl
-alike_spelled m (File key f) marks plain fs gs = ap (λ xs. key_text key ++ named xs f.0 (file_text m f)) fs
-alike_spelled m (Function f) marks plain fs gs = ap (λ xs. codes "fn=" ++ named xs f.0 (identity_of m f).name) gs
-alike_spelled m (Callee f) marks plain fs gs = ap (λ xs. codes "cfn=" ++ named xs f.0 (identity_of m f).name) gs
+alike_spelled m (File key f) marks plain fs gs = ap (λ xs. key_text key ++ id_text xs f.0 (file_text m f)) fs
+alike_spelled m (Function f) marks plain fs gs = ap (λ xs. codes "fn=" ++ id_text xs f.0 (identity_of m f).name) gs
+alike_spelled m (Callee f) marks plain fs gs = ap (λ xs. codes "cfn=" ++ id_text xs f.0 (identity_of m f).name) gs
 alike_spelled m (Calls n at) marks plain fs gs = refl
 alike_spelled m (Costs at costs) marks plain fs gs = refl
 
@@ -196,33 +196,33 @@ quiet_file OfCallee name = refl
 module _ (m : SymbolMap) where
   -- a line that is the same in both
   pub step_quiet : (mark : Mark) (l : Line) (marks plain : List Mark) (selfs calls : List ℕ)
-      → Spells (spelled m plain mark) l → is_quiet l ≡ true → Beside m marks plain selfs calls
+      → Spells (mark_text m plain mark) l → is_quiet l ≡ true → Beside m marks plain selfs calls
       → Beside m (mark ∷ marks) (mark ∷ plain) selfs calls
   step_quiet mark l marks plain selfs calls spells quiet b =
       let text_is = alike_spelled m mark marks plain b.files_are b.functions_are in
       record {
         history = alone l ∷ b.history;
         clear = (b.clear, ap (list_all is_printable) text_is ∙ spells.clear);
-        same = λ i. (ap addressed_of text_is ∙ says_alone (spelled m plain mark) l spells.said quiet) i ∷ b.same i;
+        same = λ i. (ap addressed_of text_is ∙ says_alone (mark_text m plain mark) l spells.said quiet) i ∷ b.same i;
         lines = λ i. sym spells.said i ∷ b.lines i;
         files_are = alike_files mark marks plain b.files_are;
         functions_are = alike_functions mark marks plain b.functions_are;
         file = alike_file mark marks plain b.file;
         function = alike_function mark marks plain b.function;
-        closed = quiet_closed l (bare b.history) quiet b.closed;
+        closed = quiet_closed l (without_addresses b.history) quiet b.closed;
         placed = still_placed (alone l) b.history b.placed;
         fine = (refl, λ n. refl, b.fine);
         self_rows =
             ap (λ c. self_addresses b.history
-            ++ address_if (c && not (is_some (open_call (bare b.history)))) (address_at (base b.history) None))
+            ++ address_if (c && not (is_some (open_call (without_addresses b.history)))) (address_at (base b.history) None))
             (quiet_no_cost l quiet)
             ∙ append-nil (self_addresses b.history) ∙ b.self_rows;
         call_rows =
             ap (λ c. call_addresses b.history
-            ++ address_if (c && is_some (open_call (bare b.history))) (address_at (base b.history) None))
+            ++ address_if (c && is_some (open_call (without_addresses b.history))) (address_at (base b.history) None))
             (quiet_no_cost l quiet)
             ∙ append-nil (call_addresses b.history) ∙ b.call_rows;
-        positions = ap (λ (o : Option (List (List ℕ))). or_else o (positions_in (line_of (spelled m marks mark))))
+        positions = ap (λ (o : Option (List (List ℕ))). or_else o (positions_in (line_of (mark_text m marks mark))))
             b.positions;
       }
 

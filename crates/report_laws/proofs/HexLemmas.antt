@@ -9,10 +9,10 @@ use Rattle.std.proofs.lemmas.Bool.Decides.{nat_tests}
 use Rattle.std.proofs.lemmas.Fmt.{digits_is_IsNumeral}
 use Rattle.byte_text.specs.Names.{is_printable}
 use Rattle.cg_lines.specs.Lines.{is_space}
-use Rattle.cg_lines.specs.Numbers.{limited, numeral}
-use Rattle.cg_lines.specs.Shapes.{place_of}
+use Rattle.cg_lines.specs.Numbers.{checked_number, numeral}
+use Rattle.cg_lines.specs.Shapes.{sub_position_of}
 use Rattle.cg_lines.specs.declared.number.Number.TheVariants.{Fits, TooLarge}
-use Rattle.cg_lines.specs.declared.place.Place.TheVariants.{At}
+use Rattle.cg_lines.specs.declared.sub_position.SubPosition.TheVariants.{At}
 use Rattle.reads_back.proofs.TextLemmas.{IsText, is_seen, text-append}
 use Rattle.std.proofs.lemmas.Bool.{and_from}
 
@@ -77,13 +77,13 @@ not_empty n some = grind (arith, nat_tests)
 in_limit : (n : ℕ) → n < 2 ^ 64 → nat_lt n (2 ^ 64) ≡ true
 in_limit n small = grind (arith, nat_tests)
 
-pub place_hex : (n : ℕ) → n < 2 ^ 64 → place_of (hex n) ≡ Some (At (Fits n))
+pub place_hex : (n : ℕ) → n < 2 ^ 64 → sub_position_of (hex n) ≡ Some (At (Fits n))
 place_hex n small =
     let is = numeral_is n small in
     let ds : List ℕ = digits 16 false n in
-    let read : numeral 16 ds ≡ Some (limited (digits_value 16 ds)) =
-    ap (λ b. cond b (Some (limited (digits_value 16 ds))) None)
+    let read : numeral 16 ds ≡ Some (checked_number (digits_value 16 ds)) =
+    ap (λ b. cond b (Some (checked_number (digits_value 16 ds))) None)
     (and_from (not (length ds == 0)) (list_all (λ c. is_digit c 16) ds) (not_empty (length ds) is.0.0)
     (each_digit (λ c. is_digit c 16) digit_fits ds is.0.1)) in
-    ap (option_map At) (read ∙ ap (λ v. Some (limited v)) is.1
+    ap (option_map At) (read ∙ ap (λ v. Some (checked_number v)) is.1
     ∙ ap (λ b. Some (cond b (Fits n) TooLarge)) (in_limit n small))

@@ -28,7 +28,7 @@ use Rattle.cg_read.specs.declared.rows.FuncKey.{FuncKey}
 use Rattle.cycles.specs.Costs.{IsInclusive, call_arcs, group_at, inclusive_cost}
 use Rattle.cycles.specs.Limits.{pair_calls, pair_cost}
 use Rattle.report_rows.specs.Lists.{each_event}
-use Rattle.report_rows.specs.Orders.{AreInOrder, IsArranged, cost_at, group_order, is_of, is_shown, key_order, least}
+use Rattle.report_rows.specs.Orders.{AreInOrder, IsArranged, cost_at, group_order, in_group, is_shown, key_order, least}
 use Rattle.report_rows.specs.Orders.{members, numbers, text_order}
 use Rattle.report_rows.specs.declared.options.ReportOptions.{ReportOptions}
 use Rattle.report_rows.specs.declared.options.Tree.{Tree}
@@ -143,12 +143,12 @@ module _ (p : Contents) (profile : IsProfile p) where
     first_is groups are c within =
         let some = are.used c within in
         let at = is_there some.0 some.1 in
-        let passes : is_of groups c (get_or fs at.0 0) ≡ true
+        let passes : in_group groups c (get_or fs at.0 0) ≡ true
         = eq-eqb (group_at groups (get_or fs at.0 0)) c
         (ap (group_at groups) (get_or_default fs at.0 0 some.0 at.1 ∙ at.2) ∙ some.2) in
-        let there = first_there (is_of groups c) fs at.0 at.1 passes in (
+        let there = first_there (in_group groups c) fs at.0 at.1 passes in (
           all_fs (least groups fs c) 0 there,
-          eqb-true (group_at groups (first_of groups c)) c (passes_at_first (is_of groups c) fs 0 there),
+          eqb-true (group_at groups (first_of groups c)) c (passes_at_first (in_group groups c) fs 0 there),
         )
 
     module _ (groups others : Grouping) (are : IsNumbered p groups) (also : IsNumbered p others) where
@@ -171,30 +171,30 @@ module _ (p : Contents) (profile : IsProfile p) where
         over_within : over c < length others.cyclic
         over_within = also.below (first_of groups c) here.0
 
-        of_same : (g : ℕ) → g < n → is_of groups c g ≡ is_of others (over c) g
+        of_same : (g : ℕ) → g < n → in_group groups c g ≡ in_group others (over c) g
         of_same g in_g =
             ap (λ d. group_at groups g == d) (sym here.1) ∙ same_test g (first_of groups c) in_g here.0
 
-        all_same : All (λ g. is_of groups c g ≡ is_of others (over c) g) fs
+        all_same : All (λ g. in_group groups c g ≡ in_group others (over c) g) fs
         all_same k d lt = of_same (get_or fs k d) (all_fs k d lt)
 
         members_same : members groups fs c ≡ members others fs (over c)
-        members_same = filter_agree_on (is_of groups c) (is_of others (over c)) fs all_same
+        members_same = filter_agree_on (in_group groups c) (in_group others (over c)) fs all_same
 
         least_same : least groups fs c ≡ least others fs (over c)
         least_same =
-            first_alike (is_of groups c) (is_of others (over c)) fs
-            (recursion_from_All (λ g. is_of groups c g ≡ is_of others (over c) g) fs all_same)
+            first_alike (in_group groups c) (in_group others (over c)) fs
+            (recursion_from_All (λ g. in_group groups c g ≡ in_group others (over c) g) fs all_same)
 
         member_same : is_member groups c ≡ is_member others (over c)
         member_same = λ i g. at g i
           where
             at : (g : ℕ) → is_member groups c g ≡ is_member others (over c) g
             at g =
-                ap (λ m. nat_lt g m && is_of groups c g) are.size ∙ by (nat_lt g n) refl
-                ∙ sym (ap (λ m. nat_lt g m && is_of others (over c) g) also.size)
+                ap (λ m. nat_lt g m && in_group groups c g) are.size ∙ by (nat_lt g n) refl
+                ∙ sym (ap (λ m. nat_lt g m && in_group others (over c) g) also.size)
               where
-                by : (b : Bool) → nat_lt g n ≡ b → (b && is_of groups c g) ≡ (b && is_of others (over c) g)
+                by : (b : Bool) → nat_lt g n ≡ b → (b && in_group groups c g) ≡ (b && in_group others (over c) g)
                 by true e = of_same g (ltb-true g n e)
                 by false e = refl
 
@@ -340,7 +340,7 @@ module _ (p : Contents) (profile : IsProfile p) where
       all_members [] = λ k d lt. absurd (omega arith)
       all_members (c ∷ cs) =
           All-append (λ f. f < n) (members groups fs c) (flat_map (members groups fs) cs)
-          (All-filter (is_of groups c) (λ f. f < n) fs all_fs) (all_members cs)
+          (All-filter (in_group groups c) (λ f. f < n) fs all_fs) (all_members cs)
 
       calls_same : (shown : List ℕ) (tree : Tree) → AreGroups shown
           → calls_text p groups fs shown tree ≡ calls_text p others fs (map new shown) tree

@@ -26,7 +26,7 @@ use Rattle.cg_read.specs.declared.rows.SelfRow.{SelfRow}
 use Rattle.cycles.specs.Costs.{IsInclusive, arc_of, call_arcs, group_at, inclusive_cost, self_cost}
 use Rattle.cycles.specs.Limits.{is_pair, pair_calls, pair_cost}
 use Rattle.report_rows.specs.Lists.{each_event}
-use Rattle.report_rows.specs.Orders.{AreInOrder, IsArranged, cost_at, group_order, is_of, is_shown, key_order, least}
+use Rattle.report_rows.specs.Orders.{AreInOrder, IsArranged, cost_at, group_order, in_group, is_shown, key_order, least}
 use Rattle.report_rows.specs.Orders.{members, numbers}
 use Rattle.report_laws.proofs.OneTextLemmas.{filter_agree_on, filter_of_map, flat_map_agree, sum_agree_on, sum_of_map}
 use Rattle.annotate.specs.Calls.{call_line, callees_text, callers_text, calls_of, calls_text, is_call, is_off}
@@ -41,7 +41,7 @@ use Rattle.annotate.specs.Sources.{has_cost, is_at, line_cost, line_costs_text, 
 use Rattle.annotate.specs.Sources.{shown_byte, source_text, text_lines}
 use Rattle.annotate.specs.declared.source.Source.{Source}
 use Rattle.annotate.specs.declared.source.Source.TheVariants.{Found, Missing, TooLong}
-use Rattle.byte_text.specs.Names.{cleaned}
+use Rattle.byte_text.specs.Names.{clean_name}
 use Rattle.std.specs.Ordering.{nat_cmp, ordering_then}
 use Rattle.std.specs.declared.cmp.Ordering.{Ordering}
 use Rattle.report_rows.specs.declared.options.ReportOptions.{ReportOptions}
@@ -390,22 +390,22 @@ module _ (p q : Contents) (profile : IsProfile p) (other : IsProfile q) (says : 
   rest_in t m agree number (f ∷ g ∷ fs) all = cycle_in t m agree number (f ∷ g ∷ fs) all
 
   module _ (fs : List ℕ) (below : All (λ f. f < num) fs) where
-    of_agree : (c : ℕ) → All (λ f. is_of theirs c (to f) ≡ is_of mine c f) fs
+    of_agree : (c : ℕ) → All (λ f. in_group theirs c (to f) ≡ in_group mine c f) fs
     of_agree c k d lt = ap (λ g. g == c) (sym (mine_at (get_or fs k d) (below k d lt)))
 
     members_in : (c : ℕ) → members theirs (map to fs) c ≡ map to (members mine fs c)
     members_in c =
-        filter_of_map to (is_of theirs c) fs
-        ∙ ap (map to) (filter_agree_on (λ f. is_of theirs c (to f)) (is_of mine c) fs (of_agree c))
+        filter_of_map to (in_group theirs c) fs
+        ∙ ap (map to) (filter_agree_on (λ f. in_group theirs c (to f)) (in_group mine c) fs (of_agree c))
 
     pub least_in : (c : ℕ) → least theirs (map to fs) c ≡ least mine fs c
     least_in c =
-        first_of_map (is_of theirs c) to fs
-        ∙ first_alike (λ f. is_of theirs c (to f)) (is_of mine c) fs
-        (recursion_from_All (λ f. is_of theirs c (to f) ≡ is_of mine c f) fs (of_agree c))
+        first_of_map (in_group theirs c) to fs
+        ∙ first_alike (λ f. in_group theirs c (to f)) (in_group mine c) fs
+        (recursion_from_All (λ f. in_group theirs c (to f) ≡ in_group mine c f) fs (of_agree c))
 
     below_members : (c : ℕ) → All (λ f. f < num) (members mine fs c)
-    below_members c = All-filter (is_of mine c) (λ f. f < num) fs below
+    below_members c = All-filter (in_group mine c) (λ f. f < num) fs below
 
     large_in : (c : ℕ) → is_large theirs (map to fs) c ≡ is_large mine fs c
     large_in c = ap (λ m. nat_lt 1 m) (ap length (members_in c) ∙ length-map (members mine fs c) to)
@@ -553,7 +553,7 @@ module _ (p q : Contents) (profile : IsProfile p) (other : IsProfile q) (says : 
 
   source_in : (name : List ℕ) (source : Source) → source_text q name source ≡ source_text p name source
   source_in name (Found text) = λ i.
-      codes "\n-- source " ++ cleaned name ++ codes "\n"
+      codes "\n-- source " ++ clean_name name ++ codes "\n"
       ++ (lines_in name (text_lines text) i ++ others_in name (length (text_lines text)) i)
   source_in name Missing = refl
   source_in name (TooLong len) = refl

@@ -6,13 +6,13 @@ use Rattle.cycles.specs.Costs.{IsGroupsOf}
 use Rattle.cycles.specs.Limits.{IsFirstOver}
 use Rattle.annotate.specs.Report.{IsReportOf, SourceTexts}
 use Rattle.report_rows.specs.declared.options.ReportOptions.{ReportOptions}
-use Rattle.profile_run.specs.Guest.{Guest, CanRun}
-use Rattle.profile_run.specs.Trace.{Makes, Taken}
+use Rattle.profile_run.specs.Program.{Program, CanRun}
+use Rattle.profile_run.specs.Trace.{Makes, RunStep}
 use Rattle.run_laws.specs.Profiles.{IsProfileOfRun, number_in}
 use Rattle.run_laws.proofs.CostLemmas.{groups_are, inclusive_is, none_over, pair_is}
 use Rattle.report_laws.specs.Reports.{AreGroupsOfRun, IsReportOfRun}
 
-module _ (guest : Guest) (can : CanRun guest) (past : List Taken) (makes : Makes guest past) (p : Contents)
+module _ (guest : Program) (can : CanRun guest) (past : List RunStep) (makes : Makes guest past) (p : Contents)
     (is : IsProfileOfRun guest past p) where
   pub as_in_run : (groups : Grouping) → IsGroupsOf p groups → AreGroupsOfRun guest past p groups
   as_in_run groups of_profile f g known_f known_g there_f there_g =
@@ -38,6 +38,6 @@ module _ (guest : Guest) (can : CanRun guest) (past : List Taken) (makes : Makes
 
   pub no_limit : (position : ℕ) → IsFirstOver p position → ⊥
   no_limit position first =
-      let small = none_over guest can past makes p is position first.over.sum first.over.of_profile in
-      let large = first.over.over in
+      let small = none_over guest can past makes p is position first.too_large.sum first.too_large.of_profile in
+      let large = first.too_large.too_large in
       omega (arith, small, large)

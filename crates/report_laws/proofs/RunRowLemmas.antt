@@ -17,10 +17,10 @@ use Rattle.event_costs.specs.Costs.{IsWhole, event_kinds}
 use Rattle.event_costs.specs.declared.event.Event.{Event}
 use Rattle.event_costs.specs.Keys.{ArcKey, Place}
 use Rattle.sym_map.specs.SymbolMap.{IsSound, SymbolMap, place_of}
-use Rattle.shadow_stack.specs.Changes.{change, entered}
+use Rattle.shadow_stack.specs.Changes.{change, new_activation}
 use Rattle.shadow_stack.specs.Stacks.{Activation, Stack, root}
 use Rattle.shadow_stack.specs.declared.frame.Kind.{Kind}
-use Rattle.shadow_stack.specs.Traces.{Seen}
+use Rattle.shadow_stack.specs.Traces.{EventOnStack}
 use Rattle.arc_costs.specs.Arcs.{arc_of, arc_sum, is_some_arc}
 use Rattle.arc_costs.specs.Contents.{Listed}
 use Rattle.arc_costs.specs.Keys.{by_kind, risen}
@@ -29,13 +29,13 @@ use Rattle.event_costs.specs.Order.{arc_order, place_order, same_arc, same_place
 use Rattle.arc_costs.specs.Rows.{ArcRow, LineRow}
 use Rattle.arc_costs.proofs.RiseLemmas as rise
 use Rattle.recorder.specs.Laws.{IsIn}
-use Rattle.part_dump.specs.Steps.{Step, event_of, own, own_events, own_seen, thread_of, IsPiece}
-use Rattle.profile_run.specs.Guest.{Guest, CanRun}
+use Rattle.part_dump.specs.Steps.{Step, event_of, steps_of_thread, events_of_thread, events_on_stack_of, thread_of, IsPiece}
+use Rattle.profile_run.specs.Program.{Program, CanRun}
 use Rattle.recorder.specs.Rows.{arc_at, arcs, arcs_at, arcs_of, line_at, places, rows_of}
 use Rattle.recorder.specs.Sums as event_sums
 use Rattle.recorder.specs.Sums.{self_cost}
 use Rattle.recorder.proofs.StackLemmas.{Each, pushed_each, stack_each}
-use Rattle.profile_run.specs.Trace.{Makes, Taken, steps_of}
+use Rattle.profile_run.specs.Trace.{Makes, RunStep, steps_of}
 use Rattle.recorder.proofs.ArcRowLemmas.{arc_only, arc_total}
 use Rattle.recorder.proofs.ListLemmas.{all_of, from_append, from_flat, from_map, in_filter, of_all}
 use Rattle.recorder.proofs.LineLemmas.{place_only, place_total}
@@ -49,9 +49,9 @@ use Rattle.addr_rows.specs.declared.rows.AddrArc.{AddrArc}
 use Rattle.addr_rows.specs.declared.rows.AddrLine.{AddrLine}
 use Rattle.sym_map.specs.AddressMap.{address_map}
 use Rattle.sym_map.specs.Ranges.{address_line}
-use Rattle.addr_rows.specs.EventRows.{addr_rows_of, located, located_arc, located_line}
+use Rattle.addr_rows.specs.EventRows.{addr_rows_of, located_rows, located_arc, located_line}
 use Rattle.addr_rows.specs.Files.{addr_rows_in}
-use Rattle.addr_rows.specs.Stacked.{all_stacked}
+use Rattle.addr_rows.specs.Stacked.{with_stacks_of}
 use Rattle.addr_rows.proofs.AddressMapLemmas.{address_place}
 use Rattle.addr_rows.proofs.KnownRowLemmas.{rows_known}
 use Rattle.run_laws.specs.Addresses.{MayBeFolded}
@@ -143,7 +143,7 @@ module _ (m : SymbolMap) where
   root_small pc a (inl is) = subst IsSmall is (λ k there. elim there [ ])
   root_small pc a (inr there) = elim there [ ]
 
-  entered_small : (e : Event) (kind : Kind) (s : Stack) → IsSmall (entered am e kind s)
+  entered_small : (e : Event) (kind : Kind) (s : Stack) → IsSmall (new_activation am e kind s)
   entered_small e kind [] k there = elim there [ ]
   entered_small e kind (a ∷ s) k there = elim there as (λ _. k.line < 2 ^ 32) [
     | inl is ↦ subst (λ (q : ArcKey). q.line < 2 ^ 32) is (line_small e.done.pc)
@@ -154,7 +154,7 @@ module _ (m : SymbolMap) where
   in_frames s all k there =
       let a = from_flat (λ (b : Activation). option_to_list b.arc) s k there in all a.0 a.1 k a.2
 
-  at_event : (x : Seen) → IsReached am x → (k : ArcKey) → IsIn (arcs_at am x) k → k.line < 2 ^ 32
+  at_event : (x : EventOnStack) → IsReached am x → (k : ArcKey) → IsIn (arcs_at am x) k → k.line < 2 ^ 32
   at_event x is k there =
       let stack : Each IsSmall x.stack
       = subst (Each IsSmall) (sym is.is)
@@ -169,7 +169,7 @@ module _ (m : SymbolMap) where
       ]
 
 -- an event by the map of addresses whose stack and pc are those of a run
-abbrev IsGood : SymbolMap → Seen → Type 0
+abbrev IsGood : SymbolMap → EventOnStack → Type 0
 IsGood m x = IsReached (address_map m) x × (x.event.done.pc < 2 ^ 32)
 
 -- ---- the rows of such events
@@ -189,7 +189,7 @@ record IsArcOf (q : ArcRow) : Type 0 where
   whole : IsWhole q.cost
   some : is_some_arc q ≡ true
 
-module _ (m : SymbolMap) (sound : IsSound m) (ys : List Seen) (good : AllByRecursion (IsGood m) ys) where
+module _ (m : SymbolMap) (sound : IsSound m) (ys : List EventOnStack) (good : AllByRecursion (IsGood m) ys) where
   abbrev n : SymbolMap
   n = address_map m
 
@@ -202,7 +202,7 @@ module _ (m : SymbolMap) (sound : IsSound m) (ys : List Seen) (good : AllByRecur
   abbrev IsAddress : Place → Type 0
   IsAddress p = (p.line < 2 ^ 32) × (p.func ≡ (place_of m p.line).func)
 
-  place_is : (y : Seen) → y.event.done.pc < 2 ^ 32 → IsAddress (place_of n y.event.done.pc)
+  place_is : (y : EventOnStack) → y.event.done.pc < 2 ^ 32 → IsAddress (place_of n y.event.done.pc)
   place_is y small =
       subst IsAddress (sym (address_place m y.event.done.pc))
       (let least : address_line y.event.done.pc ≡ y.event.done.pc = grind (arith, nat_tests) in
@@ -212,8 +212,8 @@ module _ (m : SymbolMap) (sound : IsSound m) (ys : List Seen) (good : AllByRecur
   line_of_sum q there =
       let passed = in_filter is_some_line (map (line_at n ys) (places n ys)) q there in
       let key = from_map (line_at n ys) (places n ys) q passed.0 in
-      let old = from_map (λ (y : Seen). place_of n y.event.done.pc) ys key.0
-      (rise.risen_in place_order place_total place_only (map (λ (y : Seen). place_of n y.event.done.pc) ys)
+      let old = from_map (λ (y : EventOnStack). place_of n y.event.done.pc) ys key.0
+      (rise.risen_in place_order place_total place_only (map (λ (y : EventOnStack). place_of n y.event.done.pc) ys)
       key.0 key.1) in
       let at : IsAddress key.0 = subst IsAddress old.2 (place_is old.0 (of_all (IsGood m) ys good old.0 old.1).1) in
       let here : IsAddress q.place = subst (λ (r : LineRow). IsAddress r.place) key.2 at in
@@ -240,7 +240,7 @@ module _ (m : SymbolMap) (sound : IsSound m) (ys : List Seen) (good : AllByRecur
       }
 
   abbrev rows : AddrListed
-  rows = located m sums
+  rows = located_rows m sums
 
   lines_fall : NotFalling (λ (r : AddrLine). r.place.func.0) rows.lines
   lines_fall =
@@ -255,7 +255,7 @@ module _ (m : SymbolMap) (sound : IsSound m) (ys : List Seen) (good : AllByRecur
       (λ a b less. first_less a.func.0 b.func.0
       (ordering_then (nat_cmp a.file.0 b.file.0) (nat_cmp a.line b.line)) less) ks
       (rise.sorted_from place_order place_total place_only ks
-      (rise.risen_rises place_order place_total place_only (map (λ (y : Seen). place_of n y.event.done.pc) ys)))))))
+      (rise.risen_rises place_order place_total place_only (map (λ (y : EventOnStack). place_of n y.event.done.pc) ys)))))))
 
   arcs_fall : NotFalling (λ (r : AddrArc). r.arc.caller.0) rows.arcs
   arcs_fall =
@@ -326,30 +326,30 @@ module _ (m : SymbolMap) (sound : IsSound m) (ys : List Seen) (good : AllByRecur
         let most = may.lines k r.place in
         let share = in_sum (λ (q : LineRow). if same_place r.place q.place then get_or q.cost k 0 else 0)
         (plain rows).lines (plain_line r) (rise.in-map plain_line rows.lines r there) in
-        let own = yes_if (same_place r.place r.place) (get_or r.cost k 0) (itself_place r.place) in
+        let steps_of_thread = yes_if (same_place r.place r.place) (get_or r.cost k 0) (itself_place r.place) in
         let same : get_or r.cost k d ≡ get_or r.cost k 0 = get_or_default r.cost k d 0 lt in
-        omega (arith, most, share, own, same)
+        omega (arith, most, share, steps_of_thread, same)
 
     arc_cost : (r : AddrArc) → IsIn rows.arcs r → All (λ n. n < 2 ^ 64) r.cost
     arc_cost r there k d lt =
         let most = may.arcs k r.arc in
         let share = in_sum (λ (q : ArcRow). if same_arc r.arc q.arc then get_or q.cost k 0 else 0) (plain rows).arcs
         (plain_arc r) (rise.in-map plain_arc rows.arcs r there) in
-        let own = yes_if (same_arc r.arc r.arc) (get_or r.cost k 0) (itself_arc r.arc) in
+        let steps_of_thread = yes_if (same_arc r.arc r.arc) (get_or r.cost k 0) (itself_arc r.arc) in
         let same : get_or r.cost k d ≡ get_or r.cost k 0 = get_or_default r.cost k d 0 lt in
-        omega (arith, most, share, own, same)
+        omega (arith, most, share, steps_of_thread, same)
 
     arc_calls : (r : AddrArc) → IsIn rows.arcs r → r.calls < 2 ^ 64
     arc_calls r there =
         let most = may.calls r.arc in
         let share = in_sum (λ (q : ArcRow). if same_arc r.arc q.arc then q.calls else 0) (plain rows).arcs (plain_arc r)
         (rise.in-map plain_arc rows.arcs r there) in
-        let own = yes_if (same_arc r.arc r.arc) r.calls (itself_arc r.arc) in
-        omega (arith, most, share, own)
+        let steps_of_thread = yes_if (same_arc r.arc r.arc) r.calls (itself_arc r.arc) in
+        omega (arith, most, share, steps_of_thread)
 
     writable : AreKnown m rows → AreWritable m rows
     writable known = record {
-      known = known;
+      of_map = known;
       lines_fit = all_lines (λ (r : AddrLine). FitsLine (plain_line r))
           (λ q there is.
           (let small = sound.place_lines q.place.line in
@@ -373,30 +373,30 @@ module _ (m : SymbolMap) (sound : IsSound m) (ys : List Seen) (good : AllByRecur
 
 -- ---- the rows of a thread in a piece of a run
 
-module _ (guest : Guest) (past : List Taken) (thread : ℕ) (segment : List Step) (can : CanRun guest)
+module _ (guest : Program) (past : List RunStep) (thread : ℕ) (segment : List Step) (can : CanRun guest)
     (makes : Makes guest past) (piece : IsPiece (steps_of past) segment) where
-  abbrev events : List Seen
-  events = own_seen thread (all_stacked (address_map guest.syms) piece.before segment)
+  abbrev events : List EventOnStack
+  events = events_on_stack_of thread (with_stacks_of (address_map guest.syms) piece.before segment)
 
   -- each step of these is one by the map of addresses, of a step of the run
   each_good : (earlier xs : List Step) → AllByRecursion IsSmallStep xs
-      → AllByRecursion (λ (x : Step). IsGood guest.syms x.seen) (all_stacked (address_map guest.syms) earlier xs)
+      → AllByRecursion (λ (x : Step). IsGood guest.syms x.on_stack) (with_stacks_of (address_map guest.syms) earlier xs)
   each_good earlier [] small = tt
   each_good earlier (x ∷ xs) small = (
-    (record { events = own_events (thread_of x) earlier; first = (event_of x).done.pc; is = refl }, small.0),
+    (record { events = events_of_thread (thread_of x) earlier; first = (event_of x).done.pc; is = refl }, small.0),
     each_good (earlier ++ x ∷ []) xs small.1,
   )
 
   good : AllByRecursion (IsGood guest.syms) events
   good =
-      each_mapped (λ (x : Step). IsGood guest.syms x.seen) (IsGood guest.syms) (λ (x : Step). x.seen) (λ x is. is)
-      (own thread (all_stacked (address_map guest.syms) piece.before segment))
-      (each_filtered (λ (x : Step). IsGood guest.syms x.seen) (λ x. thread_of x == thread)
-      (all_stacked (address_map guest.syms) piece.before segment)
+      each_mapped (λ (x : Step). IsGood guest.syms x.on_stack) (IsGood guest.syms) (λ (x : Step). x.on_stack) (λ x is. is)
+      (steps_of_thread thread (with_stacks_of (address_map guest.syms) piece.before segment))
+      (each_filtered (λ (x : Step). IsGood guest.syms x.on_stack) (λ x. thread_of x == thread)
+      (with_stacks_of (address_map guest.syms) piece.before segment)
       (each_good piece.before segment (foldable.of_run guest past thread segment can makes piece IsSmallStep
       (pcs_small guest can past makes)).1))
 
-  all_reached : (ys : List Seen) → AllByRecursion (IsGood guest.syms) ys
+  all_reached : (ys : List EventOnStack) → AllByRecursion (IsGood guest.syms) ys
       → AllByRecursion (IsReached (address_map guest.syms)) ys
   all_reached [] all = tt
   all_reached (y ∷ ys) all = (all.0.0, all_reached ys all.1)
@@ -412,7 +412,7 @@ module _ (guest : Guest) (past : List Taken) (thread : ℕ) (segment : List Step
   rows_counted = counted guest.syms can.sound events good
 
   -- the plain rows have their sums
-  pub rows_equal_sums : HaveEqualSums (rows_of guest.syms (own_seen thread segment))
+  pub rows_equal_sums : HaveEqualSums (rows_of guest.syms (events_on_stack_of thread segment))
       (plain (addr_rows_in guest.syms thread piece.before segment))
   rows_equal_sums =
       let are = foldable.plain_sums guest past thread segment can makes piece in
@@ -420,8 +420,8 @@ module _ (guest : Guest) (past : List Taken) (thread : ℕ) (segment : List Step
         lines = are.lines;
         arcs = are.arcs;
         counted = record {
-          lines = passed is_some_line (rows_of guest.syms (own_seen thread segment)).lines are.some_lines;
-          arcs = passed is_some_arc (rows_of guest.syms (own_seen thread segment)).arcs are.some_arcs;
+          lines = passed is_some_line (rows_of guest.syms (events_on_stack_of thread segment)).lines are.some_lines;
+          arcs = passed is_some_arc (rows_of guest.syms (events_on_stack_of thread segment)).arcs are.some_arcs;
           whole = record { lines = are.whole_lines; arcs = are.whole_arcs };
         };
         others_counted = rows_counted;

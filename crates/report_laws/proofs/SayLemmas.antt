@@ -14,17 +14,17 @@ use Rattle.byte_text.specs.Names.{is_printable}
 use Rattle.sym_map.specs.SymbolMap.{SymbolMap}
 use Rattle.cg_format.specs.Marks.{cost_text}
 use Rattle.addr_rows.specs.Texts.{position}
-use Rattle.cg_lines.specs.Addressed.{addressed_calls, addressed_of, addressed_other, addressed_shape, alone, placed}
-use Rattle.cg_lines.specs.Lines.{is_some_word, is_space, stripped, without_front, words}
+use Rattle.cg_lines.specs.Addressed.{addressed_calls, addressed_of, addressed_other, addressed_shape, alone, with_address}
+use Rattle.cg_lines.specs.Lines.{is_some_word, is_space, strip, without_front, words}
 use Rattle.cg_lines.specs.Numbers.{number_of}
-use Rattle.cg_lines.specs.Shapes.{begins_place, calls_line, calls_with, cost_line, cost_with, line_of, place_of, shape}
+use Rattle.cg_lines.specs.Shapes.{begins_position, calls_line, calls_with, cost_line, cost_with, line_of, sub_position_of, shape}
 use Rattle.cg_lines.specs.declared.addressed.AddressedLine.{AddressedLine}
 use Rattle.cg_lines.specs.declared.line.Line.{Line}
 use Rattle.cg_lines.specs.declared.line.Line.TheVariants as kind
 use Rattle.cg_lines.specs.declared.number.Number.{Number}
 use Rattle.cg_lines.specs.declared.number.Number.TheVariants.{Fits}
-use Rattle.cg_lines.specs.declared.place.Place.{Place}
-use Rattle.cg_lines.specs.declared.place.Place.TheVariants.{At}
+use Rattle.cg_lines.specs.declared.sub_position.SubPosition.{SubPosition}
+use Rattle.cg_lines.specs.declared.sub_position.SubPosition.TheVariants.{At}
 use Rattle.key_tables.specs.Same.{both_true}
 use Rattle.reads_back.proofs.NumberLemmas.{decimal_parts, number_decimal, text-decimal, words_more, words_one}
 use Rattle.reads_back.proofs.ShapeLemmas.{costs_after, costs_read, digit_begins, digit_no_blank, digit_no_place, front, place_decimal, spells_costs}
@@ -72,22 +72,22 @@ quiet_alone kind.BadCost is = refl
 quiet_alone kind.Jump is = refl
 quiet_alone kind.Bad is = refl
 
-cost_not_quiet : (place : Option Place) (costs : List ℕ) → is_quiet (cost_with place costs) ≡ false
+cost_not_quiet : (place : Option SubPosition) (costs : List ℕ) → is_quiet (cost_with place costs) ≡ false
 cost_not_quiet None costs = refl
 cost_not_quiet (Some place) costs = refl
 
 calls_not_quiet : (ws : List (List ℕ)) → is_quiet (calls_line ws) ≡ false
 calls_not_quiet [] = refl
 calls_not_quiet (n ∷ []) = refl
-calls_not_quiet (n ∷ place ∷ []) = by (number_of n) (place_of place)
+calls_not_quiet (n ∷ place ∷ []) = by (number_of n) (sub_position_of place)
   where
-    by : (o : Option Number) (p : Option Place) → is_quiet (calls_with o p) ≡ false
+    by : (o : Option Number) (p : Option SubPosition) → is_quiet (calls_with o p) ≡ false
     by None p = refl
     by (Some k) None = refl
     by (Some k) (Some p) = refl
 calls_not_quiet (n ∷ place ∷ more ∷ rest) = refl
 
-begins_no_comment : (b : ℕ) → begins_place b ≡ true → (b == 35) ≡ false
+begins_no_comment : (b : ℕ) → begins_position b ≡ true → (b == 35) ≡ false
 begins_no_comment b e = grind (arith, nat_tests)
 
 eq_decides : (a b : ℕ) → ((nat_eq a b ≡ true) → a ≡ b) × (a ≡ b → nat_eq a b ≡ true)
@@ -96,12 +96,12 @@ eq_decides a b = (λ e. grind (arith, nat_tests), λ e. grind (arith, nat_tests)
 quiet_shape : (text : List ℕ) (l : Line) → shape text ≡ l → is_quiet l ≡ true → addressed_shape text ≡ alone l
 quiet_shape [] l is quiet = ap alone is
 quiet_shape (b ∷ rest) l is quiet =
-    by (begins_place b) (starts_with nat_eq (b ∷ rest) (codes "calls=")) refl refl
+    by (begins_position b) (starts_with nat_eq (b ∷ rest) (codes "calls=")) refl refl
   where
     text : List ℕ
     text = b ∷ rest
 
-    by : (place calls : Bool) → begins_place b ≡ place → starts_with nat_eq (b ∷ rest) (codes "calls=") ≡ calls
+    by : (place calls : Bool) → begins_position b ≡ place → starts_with nat_eq (b ∷ rest) (codes "calls=") ≡ calls
         → addressed_shape (b ∷ rest) ≡ alone l
     by true calls is_place is_calls =
         let cost : shape (b ∷ rest) ≡ cost_line (b ∷ rest) = rw (begins_no_comment b is_place, is_place) refl in
@@ -117,7 +117,7 @@ quiet_shape (b ∷ rest) l is quiet =
         other ∙ ap addressed_other is ∙ quiet_alone l quiet
 
 pub says_alone : (text : List ℕ) (l : Line) → line_of text ≡ l → is_quiet l ≡ true → addressed_of text ≡ alone l
-says_alone text l is quiet = quiet_shape (stripped text) l is quiet
+says_alone text l is quiet = quiet_shape (strip text) l is quiet
 
 -- ---- lines with a position
 
@@ -153,9 +153,9 @@ module _ (m : SymbolMap) where
       = subst (λ (xs : List ℕ). shape (xs ++ cost_text (cost ∷ costs)) ≡ cost_line (xs ++ cost_text (cost ∷ costs)))
       (sym parts.is) (rw (other.3, digit_begins parts.first parts.digit) refl) in
       let whole = costs_after (decimal at) (cost ∷ costs) (text-decimal at) in
-      let kept : stripped (decimal at ++ cost_text (cost ∷ costs)) ≡ decimal at ++ cost_text (cost ∷ costs)
+      let kept : strip (decimal at ++ cost_text (cost ∷ costs)) ≡ decimal at ++ cost_text (cost ∷ costs)
       = subst (λ (xs : List ℕ). IsText (xs ++ cost_text (cost ∷ costs))
-      → stripped (xs ++ cost_text (cost ∷ costs)) ≡ xs ++ cost_text (cost ∷ costs)) (sym parts.is)
+      → strip (xs ++ cost_text (cost ∷ costs)) ≡ xs ++ cost_text (cost ∷ costs)) (sym parts.is)
       (stripped_kept parts.first (parts.rest ++ cost_text (cost ∷ costs)) (digit_no_blank parts.first parts.digit))
       whole in
       sym shaped ∙ ap shape (sym kept) ∙ (spells_costs m [] at cost costs small).said
@@ -197,13 +197,13 @@ module _ (m : SymbolMap) where
       }
       said =
           ap addressed_shape (stripped_kept 48 (120 ∷ (digits 16 false address ++ 32 ∷ rest)) refl whole)
-          ∙ ap (λ n. placed (place_of (take n (hex address ++ 32 ∷ rest))) kind.BadCost
+          ∙ ap (λ n. with_address (sub_position_of (take n (hex address ++ 32 ∷ rest))) kind.BadCost
           (cost_line (without_front is_space (drop (n + 1) (hex address ++ 32 ∷ rest)))))
           (no_space_before (hex address) rest (hex_no_space address address_small))
-          ∙ ap (λ (xs : List ℕ). placed (place_of xs) kind.BadCost
+          ∙ ap (λ (xs : List ℕ). with_address (sub_position_of xs) kind.BadCost
           (cost_line (without_front is_space (drop (length (hex address) + 1) (hex address ++ 32 ∷ rest)))))
           (take_at (hex address) (32 ∷ rest) (length (hex address)) refl)
-          ∙ ap (λ (p : Option Place). placed p kind.BadCost
+          ∙ ap (λ (p : Option SubPosition). with_address p kind.BadCost
           (cost_line (without_front is_space (drop (length (hex address) + 1) (hex address ++ 32 ∷ rest)))))
           (place_hex address address_small)
           ∙ ap (λ (l : Line). record { line = l; address = Some (At (Fits address)) })
@@ -253,8 +253,8 @@ module _ (m : SymbolMap) where
           ap addressed_shape (stripped_kept 99 (97 ∷ 108 ∷ 108 ∷ 115 ∷ 61 ∷ rest) refl whole)
           ∙ ap addressed_calls (words_more calls place
           ∙ ap (λ ws. decimal calls ∷ ws) (words_hex ∙ ap (λ ws. hex address ∷ ws) (words_one at)))
-          ∙ ap (λ (p : Option Place). placed p kind.BadCalls (calls_line (decimal calls ∷ decimal at ∷ [])))
+          ∙ ap (λ (p : Option SubPosition). with_address p kind.BadCalls (calls_line (decimal calls ∷ decimal at ∷ [])))
           (place_hex address address_small)
           ∙ ap (λ (l : Line). record { line = l; address = Some (At (Fits address)) })
-          (ap (λ n. calls_with n (place_of (decimal at))) (number_decimal calls calls_small)
+          (ap (λ n. calls_with n (sub_position_of (decimal at))) (number_decimal calls calls_small)
           ∙ ap (calls_with (Some (Fits calls))) (place_decimal at small))

@@ -7,7 +7,7 @@ use Rattle.std.specs.List.{list_any}
 use Rattle.std.specs.Str.{bytes_eq}
 use Rattle.std.proofs.lemmas.Bool.{lt-ltb}
 use Rattle.std.proofs.lemmas.Bool.Decides.{nat_tests}
-use Rattle.byte_text.specs.Names.{cleaned}
+use Rattle.byte_text.specs.Names.{clean_name}
 use Rattle.call_graph.specs.Groups.{Grouping, is_member}
 use Rattle.cg_read.specs.Profiles.{Contents, file_at, unknown}
 use Rattle.cg_read.specs.Totals.{total}
@@ -234,7 +234,7 @@ module _ (q : Contents) (selfs : List SelfRow) (calls : List CallRow) (alike : S
 
   source_same : (name : List ℕ) (source : Source) → source_text p name source ≡ source_text q name source
   source_same name (Found text) = λ i.
-      codes "\n-- source " ++ cleaned name ++ codes "\n"
+      codes "\n-- source " ++ clean_name name ++ codes "\n"
       ++ (lines_same name (text_lines text) i ++ others_same name (length (text_lines text)) i)
   source_same name Missing = refl
   source_same name (TooLong len) = refl

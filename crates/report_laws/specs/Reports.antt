@@ -7,13 +7,13 @@ use Rattle.cycles.specs.Costs.{IsGroupsOf, group_at}
 use Rattle.cycles.specs.Limits.{pair_cost}
 use Rattle.annotate.specs.Report.{IsReport, SourceTexts}
 use Rattle.report_rows.specs.declared.options.ReportOptions.{ReportOptions}
-use Rattle.profile_run.specs.Guest.{Guest}
-use Rattle.profile_run.specs.Trace.{Taken}
+use Rattle.profile_run.specs.Program.{Program}
+use Rattle.profile_run.specs.Trace.{RunStep}
 use Rattle.run_laws.specs.Profiles.{CountOnce, IsProfileOfRun, graph_of_run, number_in, pair_once}
 
 -- Two functions of the map that stand in the profile are in one group exactly where each reaches the other by calls of
 -- the run, or they are one.
-abbrev pub AreGroupsOfRun : Guest → List Taken → Contents → Grouping → Type 0
+abbrev pub AreGroupsOfRun : Program → List RunStep → Contents → Grouping → Type 0
 AreGroupsOfRun guest trace p groups =
     (f g : ℕ) → f < length guest.syms.functions → g < length guest.syms.functions
     → number_in guest p f < length p.functions → number_in guest p g < length p.functions
@@ -22,7 +22,7 @@ AreGroupsOfRun guest trace p groups =
 
 -- What is told of the calls of one function by another, of different groups, is what the events cost on whose thread's
 -- stack the one stands directly on the other, each counted once.
-abbrev pub PairsCountOnce : Guest → List Taken → Contents → Grouping → Type 0
+abbrev pub PairsCountOnce : Program → List RunStep → Contents → Grouping → Type 0
 PairsCountOnce guest trace p groups =
     (caller callee kind : ℕ) → kind < length p.events → caller < length p.functions → callee < length p.functions
     → group_at groups caller ≢ group_at groups callee
@@ -31,7 +31,7 @@ PairsCountOnce guest trace p groups =
 -- The report on a run is that on a profile of all its rows. Its groups are those of the run's call graph, and the cost
 -- of a group is what the events cost during which one of its functions stands on their thread's stack, each counted
 -- once.
-pub record IsReportOfRun (guest : Guest) (trace : List Taken) (options : ReportOptions) (texts : SourceTexts)
+pub record IsReportOfRun (guest : Program) (trace : List RunStep) (options : ReportOptions) (texts : SourceTexts)
     (text : List ℕ) : Type 0 where
   pub profile : Contents
   pub of_run : IsProfileOfRun guest trace profile

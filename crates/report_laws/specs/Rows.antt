@@ -19,7 +19,7 @@ AreEntriesSmall m = (func : FuncId) → IsFunc m func → IfSome (entry_of m fun
 -- What rows by address keep to be written: their functions and files are those of the map, each has a number for each
 -- kind of event, all numbers have 64 bits, and both kinds of row come by rising function.
 pub record AreWritable (m : SymbolMap) (rows : AddrListed) : Type 0 where
-  pub known : AreKnown m rows
+  pub of_map : AreKnown m rows
   pub lines_fit : All (λ (row : AddrLine). FitsLine (plain_line row)) rows.lines
   pub arcs_fit : All (λ (row : AddrArc). FitsArc (plain_arc row)) rows.arcs
   pub line_addresses : All (λ (row : AddrLine). row.addr < 2 ^ 64) rows.lines

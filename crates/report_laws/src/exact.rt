@@ -8,9 +8,9 @@ ghost use Rattle.annotate.specs.Report.{IsReportOf, SourceTexts};
 ghost use Rattle.report_rows.specs.declared.options.ReportOptions.{ReportOptions};
 ghost use Rattle.profile_files.specs.Reading.{IsReading};
 ghost use Rattle.profile_files.specs.declared.fault.ReadFault.{ReadFault};
-ghost use Rattle.profile_run.specs.Guest.{Guest, head_of_run, CanRun};
+ghost use Rattle.profile_run.specs.Program.{Program, head_of_run, CanRun};
 ghost use Rattle.profile_run.specs.Parts.{plain_parts};
-ghost use Rattle.profile_run.specs.Runs.{Answers, Ended};
+ghost use Rattle.profile_run.specs.Runs.{Answers, RunEnd};
 ghost use Rattle.reads_back.specs.Joined.{no_rows_of};
 ghost use Rattle.run_laws.specs.OwnParts.{IsOwnFault};
 ghost use Rattle.report_laws.specs.Exact.{IsExact, own_parts};
@@ -19,14 +19,14 @@ ghost use Rattle.report_laws.specs.Exact.{IsExact, own_parts};
 /// each with its length as the limit, and be joined, and let a report be made on what they are.
 pub fn a_run_reported_from_its_own_parts_is_exact()
     // Then the folder and the sinks hold what the guest's trace puts out, and the report is on that trace.
-    ensures exact { (guest : Guest) (old : Outside) (run : Ended) (new : Outside) (contents : Files) (before now : ℕ)
+    ensures exact { (guest : Program) (old : Outside) (run : RunEnd) (new : Outside) (contents : Files) (before now : ℕ)
         (p : Contents) (options : ReportOptions) (texts : SourceTexts) (text : List ℕ)
         → CanRun guest → old.files ≡ Some contents → Answers (plain_parts guest) guest old (Ok run) new
         → IsProfile p
         → IsReading new.files before now (no_rows_of (head_of_run guest)) (own_parts guest run) (Ok p)
         → IsReportOf p options texts text → IsExact guest old run new options texts text }
     // The reading is refused only where a load failed or memory was wanting.
-    ensures refused { (guest : Guest) (old : Outside) (run : Ended) (new : Outside) (contents : Files)
+    ensures refused { (guest : Program) (old : Outside) (run : RunEnd) (new : Outside) (contents : Files)
         (before now : ℕ) (fault : ReadFault)
         → CanRun guest → old.files ≡ Some contents → Answers (plain_parts guest) guest old (Ok run) new
         → IsReading new.files before now (no_rows_of (head_of_run guest)) (own_parts guest run) (Err fault)

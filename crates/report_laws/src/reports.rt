@@ -5,8 +5,8 @@ ghost use Rattle.cg_read.specs.Profiles.{Contents, IsProfile, SaysTheSame};
 ghost use Rattle.cycles.specs.Limits.{IsFirstOver};
 ghost use Rattle.annotate.specs.Report.{IsReportOf, SourceTexts};
 ghost use Rattle.report_rows.specs.declared.options.ReportOptions.{ReportOptions};
-ghost use Rattle.profile_run.specs.Guest.{Guest, CanRun};
-ghost use Rattle.profile_run.specs.Trace.{Makes, Taken};
+ghost use Rattle.profile_run.specs.Program.{Program, CanRun};
+ghost use Rattle.profile_run.specs.Trace.{Makes, RunStep};
 ghost use Rattle.run_laws.specs.Profiles.{IsProfileOfRun};
 ghost use Rattle.report_laws.specs.Reports.{IsReportOfRun};
 
@@ -14,11 +14,11 @@ ghost use Rattle.report_laws.specs.Reports.{IsReportOfRun};
 /// every event during which a function of the group stands on the event's thread's stack exactly once, and the cost of
 /// a pair of functions of different groups every event during which the one stands directly on the other.
 pub fn reports_on_a_run_count_each_event_once()
-    ensures once { (guest : Guest) (past : List Taken) (p : Contents) (options : ReportOptions) (texts : SourceTexts)
+    ensures once { (guest : Program) (past : List RunStep) (p : Contents) (options : ReportOptions) (texts : SourceTexts)
         (text : List ℕ) → CanRun guest → Makes guest past → IsProfileOfRun guest past p
         → IsReportOf p options texts text → IsReportOfRun guest past options texts text }
     // No sum of a run's profile is too large for a report.
-    ensures within { (guest : Guest) (past : List Taken) (p : Contents) (position : ℕ) → CanRun guest
+    ensures within { (guest : Program) (past : List RunStep) (p : Contents) (position : ℕ) → CanRun guest
         → Makes guest past → IsProfileOfRun guest past p → IsFirstOver p position → ⊥ }
 {}
 

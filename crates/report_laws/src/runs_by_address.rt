@@ -1,10 +1,10 @@
 //! The rows by address of a run.
 
 ghost use Rattle.std.specs.Prelude.{ℕ, List};
-ghost use Rattle.part_dump.specs.Steps.{Step, own_seen, IsPiece};
-ghost use Rattle.profile_run.specs.Guest.{Guest, CanRun};
+ghost use Rattle.part_dump.specs.Steps.{Step, events_on_stack_of, IsPiece};
+ghost use Rattle.profile_run.specs.Program.{Program, CanRun};
 ghost use Rattle.recorder.specs.Rows.{rows_of};
-ghost use Rattle.profile_run.specs.Trace.{Makes, Taken, steps_of};
+ghost use Rattle.profile_run.specs.Trace.{Makes, RunStep, steps_of};
 ghost use Rattle.addr_rows.specs.Plain.{plain};
 ghost use Rattle.addr_rows.specs.Files.{addr_rows_in};
 ghost use Rattle.report_laws.specs.Sums.{HaveEqualSums};
@@ -14,11 +14,11 @@ ghost use Rattle.report_laws.specs.Rows.{AreWritable};
 /// theirs passes 64 bits, and they come by rising function. Without their addresses they have the sums of the plain
 /// rows.
 pub fn rows_by_address_of_a_run_can_be_written()
-    ensures writable { (guest : Guest) (past : List Taken) (thread : ℕ) (segment : List Step) → CanRun guest
+    ensures writable { (guest : Program) (past : List RunStep) (thread : ℕ) (segment : List Step) → CanRun guest
         → Makes guest past → (piece : IsPiece (steps_of past) segment)
         → AreWritable guest.syms (addr_rows_in guest.syms thread piece.before segment) }
-    ensures sums { (guest : Guest) (past : List Taken) (thread : ℕ) (segment : List Step) → CanRun guest
+    ensures sums { (guest : Program) (past : List RunStep) (thread : ℕ) (segment : List Step) → CanRun guest
         → Makes guest past → (piece : IsPiece (steps_of past) segment)
-        → HaveEqualSums (rows_of guest.syms (own_seen thread segment))
+        → HaveEqualSums (rows_of guest.syms (events_on_stack_of thread segment))
         (plain (addr_rows_in guest.syms thread piece.before segment)) }
 {}

@@ -21,9 +21,9 @@ use Rattle.cg_read.specs.declared.function_numbers.FunctionNumbers.{FunctionNumb
 use Rattle.cg_read.specs.declared.rows.FuncKey.{FuncKey}
 use Rattle.report_rows.specs.Orders.{IsArranged, cost_at, key_order, numbers, text_order}
 use Rattle.report_rows.specs.declared.options.ReportOptions.{ReportOptions}
-use Rattle.report_rows.specs.declared.order.Numbered.{Numbered}
+use Rattle.report_rows.specs.declared.order.NumberedFunction.{NumberedFunction}
 use Rattle.report_rows.specs.declared.order.Rank.{Rank}
-use Rattle.report_rows.specs.Ranks.{AreShown, is_enough, least_at, numbered, rank_of, rank_order}
+use Rattle.report_rows.specs.Ranks.{AreShown, is_enough, least_at, numbered_function, rank_of, rank_order}
 use Rattle.report_rows.specs.Tables.{AreLists, list_at, lists}
 use Rattle.report_rows.proofs.EntryLemmas.{list_at-set_same, list_at-set_other, list_at_read}
 use Rattle.report_rows.proofs.ListLemmas.{filter_of_map, filter_agree_on, range_more}
@@ -162,17 +162,17 @@ without_last Equal Equal Less d e = e
 without_last Equal Equal Equal d e = refl
 without_last Equal Equal Greater d e = refl
 
-abbrev numbered_with : FunctionNumbers → ℕ → Numbered
+abbrev numbered_with : FunctionNumbers → ℕ → NumberedFunction
 numbered_with r n = record { file = r.file; name = r.name; object = r.object; number = n }
 
 -- a function where its ranks were read
 pub numbered_at : (ranks : List FunctionNumbers) (i : ℕ) (d : FunctionNumbers) → i < length ranks
-    → numbered_with (get_or ranks i d) i ≡ numbered ranks i
+    → numbered_with (get_or ranks i d) i ≡ numbered_function ranks i
 numbered_at ranks i d lt =
     ap (λ (q : FunctionNumbers). numbered_with q i)
     (get_or_default ranks i d (record { object = 0; file = 0; name = 0 }) lt)
 
-abbrev pub numbered_order : Numbered → Numbered → Ordering
+abbrev pub numbered_order : NumberedFunction → NumberedFunction → Ordering
 numbered_order x y =
     ordering_then (nat_cmp x.file y.file)
     (ordering_then (nat_cmp x.name y.name)
@@ -197,19 +197,19 @@ same_order functions ranks are f g at_f at_g =
     ∙ ap (λ o. ordering_then (text_order f_key.file g_key.file)
     (ordering_then (text_order f_key.name g_key.name) o)) (are.object f g at_f at_g)
 
-pub functions_arranged : (functions : List FuncKey) (ranks : List FunctionNumbers) (all sorted : List Numbered)
-    (order : List ℕ) → AreRanks functions ranks → all ≡ map (numbered ranks) (numbers (length ranks))
+pub functions_arranged : (functions : List FuncKey) (ranks : List FunctionNumbers) (all sorted : List NumberedFunction)
+    (order : List ℕ) → AreRanks functions ranks → all ≡ map (numbered_function ranks) (numbers (length ranks))
     → IsPermutation all sorted → IsSorted numbered_order sorted → order ≡ map (λ x. x.number) sorted
     → IsArranged (order_of functions) (numbers (length functions)) order
 functions_arranged functions ranks all sorted order are made same rise is =
     subst (IsArranged (order_of functions) (numbers (length functions))) (sym is)
-    (arranged (numbered ranks) (λ x. x.number) (λ n. refl) numbered_order (order_of functions) (length functions)
+    (arranged (numbered_function ranks) (λ x. x.number) (λ n. refl) numbered_order (order_of functions) (length functions)
     (λ f g at_f at_g e.
     ap is_lt (sym (same_order functions ranks are f g at_f at_g))
     ∙ without_last (nat_cmp (rank_at ranks f).file (rank_at ranks g).file)
     (nat_cmp (rank_at ranks f).name (rank_at ranks g).name)
     (nat_cmp (rank_at ranks f).object (rank_at ranks g).object) (nat_cmp f g) e)
-    all sorted (made ∙ ap (λ n. map (numbered ranks) (numbers n)) are.size) same rise)
+    all sorted (made ∙ ap (λ n. map (numbered_function ranks) (numbers n)) are.size) same rise)
 
 -- Groups
 

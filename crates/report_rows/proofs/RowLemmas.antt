@@ -12,7 +12,7 @@ use Rattle.cg_read.specs.declared.rows.SelfRow.{SelfRow}
 use Rattle.cycles.specs.Limits.{AreAllWithin, of_total}
 use Rattle.report_rows.specs.Lists.{each_event}
 use Rattle.report_rows.specs.Orders.{numbers}
-use Rattle.report_rows.specs.Entries.{AreSaid, AreWithin, Keyed, cost_of, costs_of, list_of, of_list, said}
+use Rattle.report_rows.specs.Entries.{HaveValues, AreWithin, EntryValue, cost_of, costs_of, list_of, of_list, entry_values}
 use Rattle.report_rows.specs.Entries.{self_entry}
 use Rattle.report_rows.specs.declared.entries.By.{By}
 use Rattle.report_rows.specs.declared.entries.Entry.{Entry}
@@ -37,10 +37,10 @@ sum_part p f (x ∷ xs) =
     omega (arith, g, rest, sum_by-cons (λ y. cond (p y) (f y) 0) x xs, sum_by-cons f x xs)
 
 module _ (p : Contents) (profile : IsProfile p) (within : AreAllWithin p) (by : By) where
-  abbrev entry : SelfRow → Keyed
+  abbrev entry : SelfRow → EntryValue
   entry = self_entry by
 
-  abbrev all : List Keyed
+  abbrev all : List EntryValue
   all = map entry p.self_rows
 
   wide : All (λ k. length k.cost ≡ length p.events) all
@@ -88,10 +88,10 @@ module _ (p : Contents) (profile : IsProfile p) (within : AreAllWithin p) (by : 
   }
 
   -- lists that are all within
-  pub lists_within : (count : ℕ) (rows : List (Vec Entry Global)) → AreSaid count (λ n. filter (of_list n) all) rows
-      → All (λ entries. AreWithin (length p.events) (said entries.items)) rows
+  pub lists_within : (count : ℕ) (rows : List (Vec Entry Global)) → HaveValues count (λ n. filter (of_list n) all) rows
+      → All (λ entries. AreWithin (length p.events) (entry_values entries.items)) rows
   lists_within count rows stands i d lt =
-      let at : said (get_or rows i d).items ≡ filter (of_list i) all =
-      ap said (sym (get_or-map (λ (r : Vec Entry Global). r.items) rows i d [] lt))
+      let at : entry_values (get_or rows i d).items ≡ filter (of_list i) all =
+      ap entry_values (sym (get_or-map (λ (r : Vec Entry Global). r.items) rows i d [] lt))
       ∙ stands.exact i (omega (arith, lt, stands.size)) in
       subst (AreWithin (length p.events)) (sym at) (list_within i)

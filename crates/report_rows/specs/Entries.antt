@@ -16,17 +16,17 @@ use Rattle.report_rows.specs.declared.entries.End.TheVariants.{Caller, Callee}
 use Rattle.report_rows.specs.declared.entries.Entry.{Entry}
 
 -- what an entry says
-pub record Keyed : Type 0 where
+pub record EntryValue : Type 0 where
   pub list : ℕ
   pub at : ℕ
   pub calls : ℕ
   pub cost : List ℕ
 
-abbrev pub keyed : Entry → Keyed
-keyed e = record { list = e.list; at = e.at; calls = e.calls; cost = e.cost.now }
+abbrev pub entry_value : Entry → EntryValue
+entry_value e = record { list = e.list; at = e.at; calls = e.calls; cost = e.cost.now }
 
-abbrev pub said : List Entry → List Keyed
-said entries = map keyed entries
+abbrev pub entry_values : List Entry → List EntryValue
+entry_values entries = map entry_value entries
 
 -- the list that a self row belongs to
 abbrev pub list_of : By → SelfRow → ℕ
@@ -42,7 +42,7 @@ has_list by.Function row = ⊤
 has_list (by.Group groups) row = row.func < length groups.now.number
 has_list by.File row = ⊤
 
-abbrev pub self_entry : By → SelfRow → Keyed
+abbrev pub self_entry : By → SelfRow → EntryValue
 self_entry by row = record { list = list_of by row; at = row.line; calls = 0; cost = row.cost }
 
 -- the function that lists a call row, and the other one
@@ -54,7 +54,7 @@ abbrev pub far_end : End → CallRow → ℕ
 far_end Caller row = row.callee
 far_end Callee row = row.caller
 
-abbrev pub call_entry : List ℕ → End → CallRow → Keyed
+abbrev pub call_entry : List ℕ → End → CallRow → EntryValue
 call_entry places end row = record {
   list = near_end end row;
   at = slice_index places (far_end end row);
@@ -62,32 +62,32 @@ call_entry places end row = record {
   cost = row.cost;
 }
 
-abbrev pub of_list : ℕ → Keyed → Bool
+abbrev pub of_list : ℕ → EntryValue → Bool
 of_list n k = k.list == n
 
-abbrev pub is_at : ℕ → Keyed → Bool
+abbrev pub is_at : ℕ → EntryValue → Bool
 is_at n k = k.at == n
 
 -- Sums
 
-abbrev pub calls_of : List Keyed → ℕ
+abbrev pub calls_of : List EntryValue → ℕ
 calls_of ks = sum_by (λ k. k.calls) ks
 
-abbrev pub cost_of : List Keyed → ℕ → ℕ
+abbrev pub cost_of : List EntryValue → ℕ → ℕ
 cost_of ks event = sum_by (λ k. slice_index k.cost event) ks
 
-abbrev pub costs_of : ℕ → List Keyed → List ℕ
+abbrev pub costs_of : ℕ → List EntryValue → List ℕ
 costs_of events ks = map (cost_of ks) (numbers events)
 
 -- each has a cost for each event, and no sum passes 2^64 - 1
-pub record AreWithin (events : ℕ) (ks : List Keyed) : Type 0 where
+pub record AreWithin (events : ℕ) (ks : List EntryValue) : Type 0 where
   pub width : All (λ k. length k.cost ≡ events) ks
   pub cost : (event : ℕ) → event < events → cost_of ks event < 2 ^ 64
   pub calls : calls_of ks < 2 ^ 64
 
 -- Places
 
-abbrev pub if_any : List Keyed → Option (List Keyed)
+abbrev pub if_any : List EntryValue → Option (List EntryValue)
 if_any [] = None
 if_any (k ∷ ks) = Some (k ∷ ks)
 
@@ -95,17 +95,17 @@ if_any (k ∷ ks) = Some (k ∷ ks)
 abbrev pub Places : Type 0
 Places = tree.BTreeMap ℕ (Vec Entry Global)
 
-abbrev pub said_at : Places → ℕ → Option (List Keyed)
-said_at places n = option_map (λ entries. said entries.items) (tree.get nat_cmp places n)
+abbrev pub values_at : Places → ℕ → Option (List EntryValue)
+values_at places n = option_map (λ entries. entry_values entries.items) (tree.get nat_cmp places n)
 
 -- each place has its entries, where there are any
-pub record AreAtPlaces (ks : List Keyed) (places : Places) : Type 0 where
-  pub exact : (n : ℕ) → said_at places n ≡ if_any (filter (is_at n) ks)
+pub record AreAtPlaces (ks : List EntryValue) (places : Places) : Type 0 where
+  pub exact : (n : ℕ) → values_at places n ≡ if_any (filter (is_at n) ks)
   pub ordered : tree.IsOrdered nat_cmp places
 
 -- Lists
 
 -- so many lists of entries, and each says what stands for its number
-pub record AreSaid (count : ℕ) (expected : ℕ → List Keyed) (rows : List (Vec Entry Global)) : Type 0 where
+pub record HaveValues (count : ℕ) (expected : ℕ → List EntryValue) (rows : List (Vec Entry Global)) : Type 0 where
   pub size : length rows ≡ count
-  pub exact : (n : ℕ) → n < count → said (list_at rows n) ≡ expected n
+  pub exact : (n : ℕ) → n < count → entry_values (list_at rows n) ≡ expected n

@@ -38,16 +38,16 @@ AreInOrder p functions = IsArranged (function_order p) (numbers (length p.functi
 
 -- Groups. A group's cost stands at its number, and functions are those of the profile in their order.
 
-abbrev pub is_of : Grouping → ℕ → ℕ → Bool
-is_of groups group func = group_at groups func == group
+abbrev pub in_group : Grouping → ℕ → ℕ → Bool
+in_group groups group func = group_at groups func == group
 
 -- a group's functions in their order
 abbrev pub members : Grouping → List ℕ → ℕ → List ℕ
-members groups functions group = filter (is_of groups group) functions
+members groups functions group = filter (in_group groups group) functions
 
 -- the place of its least function
 abbrev pub least : Grouping → List ℕ → ℕ → ℕ
-least groups functions group = position_or_len (is_of groups group) functions
+least groups functions group = position_or_len (in_group groups group) functions
 
 -- what a group costs of an event
 abbrev pub cost_at : List (List ℕ) → ℕ → ℕ → ℕ

@@ -10,13 +10,13 @@ use Rattle.cg_read.specs.declared.function_numbers.FunctionNumbers.{FunctionNumb
 use Rattle.report_rows.specs.Orders.{AreInOrder, IsArranged, cost_at, members, numbers}
 use Rattle.report_rows.specs.Tables.{AreLists}
 use Rattle.report_rows.specs.declared.options.ReportOptions.{ReportOptions}
-use Rattle.report_rows.specs.declared.order.Numbered.{Numbered}
+use Rattle.report_rows.specs.declared.order.NumberedFunction.{NumberedFunction}
 use Rattle.report_rows.specs.declared.order.Rank.{Rank}
 use Rattle.report_rows.specs.declared.order.Sequence.{Sequence}
 
 -- a function by the ranks of its texts
-abbrev pub numbered : List FunctionNumbers → ℕ → Numbered
-numbered ranks number = record {
+abbrev pub numbered_function : List FunctionNumbers → ℕ → NumberedFunction
+numbered_function ranks number = record {
   file = (rank_at ranks number).file;
   name = (rank_at ranks number).name;
   object = (rank_at ranks number).object;

@@ -3,13 +3,13 @@
 ghost use Rattle.std.specs.Prelude.{◌≡◌, ◌<◌, ◌++◌, ◌∷◌, ◌==◌, [], ℕ, List, All, IfOk, OnOk, length, map, replicate};
 ghost use Rattle.std.specs.Prelude.{filter};
 ghost use Rattle.call_graph.specs.Groups.{Grouping};
-ghost use Rattle.report_rows.specs.Entries.{AreAtPlaces, AreSaid, Keyed, call_entry, far_end, has_list, keyed};
-ghost use Rattle.report_rows.specs.Entries.{list_of, near_end, of_list, said, self_entry};
+ghost use Rattle.report_rows.specs.Entries.{AreAtPlaces, HaveValues, EntryValue, call_entry, far_end, has_list, entry_value};
+ghost use Rattle.report_rows.specs.Entries.{list_of, near_end, of_list, entry_values, self_entry};
 ghost use Rattle.report_rows.specs.Tables.{lists};
 
+use byte_text::OutOfMemory;
 use cg_read::{CallRow, CostList, SelfRow};
 use cycles::Groups;
-use byte_text::OutOfMemory;
 use std::alloc::Global;
 use std::collections::BTreeMap;
 
@@ -53,7 +53,7 @@ pub fn self_entries<'a>(
     by: By<'_>,
 ) -> Result<Vec<Entry<'a>>, OutOfMemory>
     requires { All (has_list by) rows.now }
-    ensures { IfOk result (λ entries. said entries.items ≡ map (self_entry by.entry) rows.now) }
+    ensures { IfOk result (λ entries. entry_values entries.items ≡ map (self_entry by.entry) rows.now) }
 {
     let mut entries = Vec::with_capacity(alloc, rows.len())?;
     'rows: for row in rows {
@@ -104,7 +104,7 @@ pub(crate) fn call_entries<'a>(
     end: End,
 ) -> Result<Vec<Entry<'a>>, OutOfMemory>
     requires { All (λ row. far_end end row < length places.now) rows.now }
-    ensures { IfOk result (λ entries. said entries.items ≡ map (call_entry places.now end) rows.now) }
+    ensures { IfOk result (λ entries. entry_values entries.items ≡ map (call_entry places.now end) rows.now) }
 {
     let mut entries = Vec::with_capacity(alloc, rows.len())?;
     'rows: for row in rows {
@@ -135,8 +135,8 @@ pub fn lists_of<'a>(
     count: usize,
     entries: &[Entry<'a>],
 ) -> Result<Vec<Vec<Entry<'a>>>, OutOfMemory>
-    requires { All (λ k. k.list < count) (said entries.now) }
-    ensures { IfOk result (λ rows. AreSaid count (λ n. filter (of_list n) (said entries.now)) rows.items) }
+    requires { All (λ k. k.list < count) (entry_values entries.now) }
+    ensures { IfOk result (λ rows. HaveValues count (λ n. filter (of_list n) (entry_values entries.now)) rows.items) }
 {
     let mut lists = empty_lists(alloc, count)?;
     'entries: for entry in entries {
@@ -151,8 +151,8 @@ fn put_at<'a>(
     places: &mut BTreeMap<u64, Vec<Entry<'a>>>,
     row: Entry<'a>,
 ) -> Result<(), OutOfMemory>
-    ensures { (ks : List Keyed) → AreAtPlaces ks places.old
-        → OnOk result (AreAtPlaces (ks ++ keyed row.entry ∷ []) places.new) }
+    ensures { (ks : List EntryValue) → AreAtPlaces ks places.old
+        → OnOk result (AreAtPlaces (ks ++ entry_value row.entry ∷ []) places.new) }
 {
     match places.get_mut(&row.at) {
         Some(list) => list.push(row)?,
@@ -170,7 +170,7 @@ pub fn by_place<'a>(
     alloc: Global,
     entries: &[Entry<'a>],
 ) -> Result<BTreeMap<u64, Vec<Entry<'a>>>, OutOfMemory>
-    ensures { IfOk result (λ places. AreAtPlaces (said entries.now) places) }
+    ensures { IfOk result (λ places. AreAtPlaces (entry_values entries.now) places) }
 {
     let mut places = BTreeMap::new(alloc);
     'entries: for entry in entries {
@@ -180,7 +180,7 @@ pub fn by_place<'a>(
 }
 
 /// The places in order, each with its entries.
-pub fn listed<'a>(
+pub fn into_list<'a>(
     alloc: Global,
     places: BTreeMap<u64, Vec<Entry<'a>>>,
 ) -> Result<Vec<(u64, Vec<Entry<'a>>)>, OutOfMemory>

@@ -8,7 +8,7 @@ mod options;
 mod order;
 mod sums;
 
-pub use entries::{By, End, Entry, by_place, listed, lists_of, self_entries};
+pub use entries::{By, End, Entry, by_place, into_list, lists_of, self_entries};
 pub use lists::{call_lists, file_lists, totals};
 pub use options::{ReportOptions, Tree};
 pub use order::{Sequence, groups_shown, ordered};

@@ -7,8 +7,8 @@ ghost use Rattle.report_rows.specs.Lists.{AreCallLists, AreFileLists, each_event
 
 use crate::entries::{By, End, Entry, call_entries, lists_of, self_entries};
 use crate::sums::sum_of;
-use cg_read::Profile;
 use byte_text::OutOfMemory;
+use cg_read::Profile;
 use std::alloc::Global;
 
 /// The total of each event.

@@ -6,31 +6,34 @@ ghost use Rattle.cg_read.specs.Profiles.{function_at};
 ghost use Rattle.cycles.specs.Costs.{IsGroupsOf, group_at};
 ghost use Rattle.report_rows.specs.Orders.{IsArranged, key_order, members, numbers};
 ghost use Rattle.report_rows.specs.Ranks.{ArePlaces, IsSequence};
-ghost use Rattle.report_rows.specs.Ranks.{AreShown, first_place, numbered, rank_of};
+ghost use Rattle.report_rows.specs.Ranks.{AreShown, first_place, numbered_function, rank_of};
 ghost use Rattle.report_rows.specs.Tables.{AreLists, lists};
 
 use crate::options::ReportOptions;
+use byte_text::OutOfMemory;
 use cg_read::{CostList, FunctionNumbers, Functions, Profile};
 use cycles::Groups;
-use byte_text::OutOfMemory;
 use std::alloc::Global;
 use std::cmp::Reverse;
 
 /// A function by the ranks of its texts, with its number. The order is that of the report.
 #[derive(Clone, Copy, Debug, PartialEq, Eq, PartialOrd, Ord)]
-struct Numbered {
+struct NumberedFunction {
     file: usize,
     name: usize,
     object: usize,
     number: usize,
 }
 
-fn with_numbers(alloc: Global, ranks: &[FunctionNumbers]) -> Result<Vec<Numbered>, OutOfMemory>
-    ensures { IfOk result (λ all. all.items ≡ map (numbered ranks.now) (numbers (length ranks.now))) }
+fn with_numbers(
+    alloc: Global,
+    ranks: &[FunctionNumbers],
+) -> Result<Vec<NumberedFunction>, OutOfMemory>
+    ensures { IfOk result (λ all. all.items ≡ map (numbered_function ranks.now) (numbers (length ranks.now))) }
 {
     let mut all = Vec::with_capacity(alloc, ranks.len())?;
     'functions: for (number, function) in ranks.iter().enumerate() {
-        all.push(Numbered {
+        all.push(NumberedFunction {
             file: function.file,
             name: function.name,
             object: function.object,

@@ -1,7 +1,7 @@
 //! Sums over entries.
 
 ghost use Rattle.std.specs.Prelude.{◌≡◌, ◌+◌, ◌^◌, ◌<◌, ℕ, IfOk, length, slice_index};
-ghost use Rattle.report_rows.specs.Entries.{AreWithin, calls_of, costs_of, said};
+ghost use Rattle.report_rows.specs.Entries.{AreWithin, calls_of, costs_of, entry_values};
 
 use crate::entries::Entry;
 use byte_text::OutOfMemory;
@@ -30,9 +30,9 @@ fn add_cost(sums: &mut [u64], cost: &[u64])
 
 /// The sums of these entries, for so many events.
 pub fn sum_of(alloc: Global, events: usize, entries: &[Entry<'_>]) -> Result<Sum, OutOfMemory>
-    requires { AreWithin events (said entries.now) }
-    ensures calls { IfOk result (λ sum. sum.calls ≡ calls_of (said entries.now)) }
-    ensures cost { IfOk result (λ sum. sum.cost.items ≡ costs_of events (said entries.now)) }
+    requires { AreWithin events (entry_values entries.now) }
+    ensures calls { IfOk result (λ sum. sum.calls ≡ calls_of (entry_values entries.now)) }
+    ensures cost { IfOk result (λ sum. sum.cost.items ≡ costs_of events (entry_values entries.now)) }
 {
     let mut calls = 0;
     let mut cost = vec![in alloc; 0; events]?;

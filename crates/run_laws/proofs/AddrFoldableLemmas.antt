@@ -9,20 +9,20 @@ use Rattle.arc_costs.specs.Contents.{Listed}
 use Rattle.sym_map.specs.SymbolMap.{SymbolMap}
 use Rattle.shadow_stack.specs.Changes.{after}
 use Rattle.shadow_stack.specs.Stacks.{is_rooted}
-use Rattle.shadow_stack.specs.Traces.{Seen, stack_of}
-use Rattle.guest_sched.specs.Seen.{Seen as SeenMachine, next}
-use Rattle.guest_sched.specs.Step.{Told}
+use Rattle.shadow_stack.specs.Traces.{EventOnStack, stack_of}
+use Rattle.guest_sched.specs.Machine.{Machine, next}
+use Rattle.guest_sched.specs.Step.{MachineStep}
 use Rattle.guest_sched.proofs.OrderLemmas.{Holds, holds_first, holds_next}
-use Rattle.part_dump.specs.Steps.{Step, event_of, own, own_events, own_seen, stack_at, thread_of, IsPiece}
+use Rattle.part_dump.specs.Steps.{Step, event_of, steps_of_thread, events_of_thread, events_on_stack_of, stack_at, thread_of, IsPiece}
 use Rattle.part_dump.proofs.StepLemmas.{events-push, own-other, stack-push}
 use Rattle.recorder.specs.Rows.{rows_of}
 use Rattle.sym_map.specs.AddressMap.{address_map}
 use Rattle.addr_rows.specs.Plain.{plain}
 use Rattle.addr_rows.specs.Rows.{AddrListed}
-use Rattle.addr_rows.specs.Stacked.{all_stacked, stacked}
-use Rattle.profile_run.specs.Guest.{Guest, CanRun}
+use Rattle.addr_rows.specs.Stacked.{with_stacks_of, with_stack_of}
+use Rattle.profile_run.specs.Program.{Program, CanRun}
 use Rattle.profile_run.specs.Steps.{AreTold}
-use Rattle.profile_run.specs.Trace.{Makes, Taken, steps_of}
+use Rattle.profile_run.specs.Trace.{Makes, RunStep, steps_of}
 use Rattle.ctx_rows.specs.Folding.{AreSumsOf}
 use Rattle.once_each.specs.Runs.{AreOrderlyAfter}
 use Rattle.run_laws.proofs.EventLemmas as run_events
@@ -44,22 +44,22 @@ all_split P (x ∷ xs) ys all = let rest = all_split P xs ys all.1 in ((all.0, r
 
 -- ---- the pcs of a run
 
-module _ (guest : Guest) (can : CanRun guest) where
-  pcs_from : (earlier tolds : List Told) (m n : SeenMachine) (before past : List Taken)
+module _ (guest : Program) (can : CanRun guest) where
+  pcs_from : (earlier tolds : List MachineStep) (m n : Machine) (before past : List RunStep)
       → Holds (run_events.first guest can) earlier m → Run next m tolds n → AreTold guest before tolds past
-      → AllByRecursion (λ (x : Step). x.seen.event.done.pc < 2 ^ 32) (steps_of past)
+      → AllByRecursion (λ (x : Step). x.on_stack.event.done.pc < 2 ^ 32) (steps_of past)
   pcs_from earlier [] m n before [] holds run are = tt
   pcs_from earlier [] m n before (x ∷ past) holds run are = absurd are
   pcs_from earlier (t ∷ ts) m n before [] holds run are = tt
   pcs_from earlier (t ∷ ts) m n before (x ∷ past) holds run are =
       let step = holds_next (run_events.first guest can) earlier m t run.0 holds run.1 in
       let within = step.1.within.0 in (
-        subst (λ (y : Taken). y.step.seen.event.done.pc < 2 ^ 32) (sym are.0.is) (omega (arith, within)),
+        subst (λ (y : RunStep). y.step.on_stack.event.done.pc < 2 ^ 32) (sym are.0.is) (omega (arith, within)),
         pcs_from (earlier ++ t ∷ []) ts run.0 n (before ++ x ∷ []) past step.0 run.2 are.1,
       )
 
-  pub pcs_small : (past : List Taken) → Makes guest past
-      → AllByRecursion (λ (x : Step). x.seen.event.done.pc < 2 ^ 32) (steps_of past)
+  pub pcs_small : (past : List RunStep) → Makes guest past
+      → AllByRecursion (λ (x : Step). x.on_stack.event.done.pc < 2 ^ 32) (steps_of past)
   pcs_small past makes =
       let machine = run_events.machine guest can past makes in
       let reached = run_events.reached guest can past makes in
@@ -70,7 +70,7 @@ module _ (guest : Guest) (can : CanRun guest) where
 -- ---- stacks by the map of addresses, step by step
 
 abbrev pub IsSmallStep : Step → Type 0
-IsSmallStep x = x.seen.event.done.pc < 2 ^ 32
+IsSmallStep x = x.on_stack.event.done.pc < 2 ^ 32
 
 module _ (m : SymbolMap) where
   abbrev am : SymbolMap
@@ -86,12 +86,12 @@ module _ (m : SymbolMap) where
   -- what is known of steps
   abbrev AreGood : List Step → List Step → Type 0
   AreGood earlier xs =
-      AreOrderlyAfter m earlier xs × AllByRecursion (λ (x : Step). StandsOn m x.seen) xs × AllByRecursion IsSmallStep xs
+      AreOrderlyAfter m earlier xs × AllByRecursion (λ (x : Step). StandsOn m x.on_stack) xs × AllByRecursion IsSmallStep xs
 
   module _ (earlier : List Step) (x : Step)
-      (stack : x.seen.stack ≡ stack_at m earlier (thread_of x) (event_of x).done.pc) (on : StandsOn m x.seen)
+      (stack : x.on_stack.stack ≡ stack_at m earlier (thread_of x) (event_of x).done.pc) (on : StandsOn m x.on_stack)
       (small : IsSmallStep x) (all : AllAt earlier) where
-    here : AreLocated m (stack_at am earlier (thread_of x) (event_of x).done.pc) x.seen.stack
+    here : AreLocated m (stack_at am earlier (thread_of x) (event_of x).done.pc) x.on_stack.stack
     here = subst (AreLocated m (stack_at am earlier (thread_of x) (event_of x).done.pc)) (sym stack)
         (all (thread_of x) (event_of x).done.pc)
 
@@ -100,7 +100,7 @@ module _ (m : SymbolMap) where
         ≡ after syms (stack_at syms earlier (thread_of x) (event_of x).done.pc) (event_of x)
     next_stack syms t pc is =
         ap (λ es. stack_of syms es pc) (events-push t earlier x is)
-        ∙ stack-push syms (own_events t earlier) (event_of x) pc
+        ∙ stack-push syms (events_of_thread t earlier) (event_of x) pc
         ∙ ap (λ u. after syms (stack_at syms earlier u (event_of x).done.pc) (event_of x)) (sym is)
 
     all_more : AllAt (earlier ++ x ∷ [])
@@ -111,15 +111,15 @@ module _ (m : SymbolMap) where
         by (inl same) =
             subst (AreLocated m (stack_at am (earlier ++ x ∷ []) t pc))
             (ap (λ s. after m s (event_of x)) stack ∙ sym (next_stack m t pc same.1))
-            (subst (λ s. AreLocated m s (after m x.seen.stack (event_of x))) (sym (next_stack am t pc same.1))
-            (located_after m (event_of x) small (stack_at am earlier (thread_of x) (event_of x).done.pc) x.seen.stack
+            (subst (λ s. AreLocated m s (after m x.on_stack.stack (event_of x))) (sym (next_stack am t pc same.1))
+            (located_after m (event_of x) small (stack_at am earlier (thread_of x) (event_of x).done.pc) x.on_stack.stack
             here))
         by (inr apart) =
             let still = sym (own-other t earlier x apart.1) in
             subst (λ (ys : List Step). AreLocated m (stack_of am (map event_of ys) pc) (stack_of m (map event_of ys) pc))
             still (all t pc)
 
-    located : IsLocated m (stacked am earlier x).seen x.seen
+    located : IsLocated m (with_stack_of am earlier x).on_stack x.on_stack
     located = record { event = refl; cost = refl; stack = here; whole = on.whole; small = small }
 
   all_later : (earlier xs : List Step) → AreGood earlier xs → AllAt earlier → AllAt (earlier ++ xs)
@@ -133,7 +133,7 @@ module _ (m : SymbolMap) where
 
   -- the events of a thread
   own_located : (thread : ℕ) (earlier xs : List Step) → AreGood earlier xs → AllAt earlier
-      → AllLocated m (own_seen thread (all_stacked am earlier xs)) (own_seen thread xs)
+      → AllLocated m (events_on_stack_of thread (with_stacks_of am earlier xs)) (events_on_stack_of thread xs)
   own_located thread earlier [] good all = tt
   own_located thread earlier (x ∷ xs) good all =
       by (thread_of x == thread)
@@ -141,25 +141,25 @@ module _ (m : SymbolMap) where
       (all_more earlier x good.0.0.stack good.1.0 good.2.0 all))
     where
       later : List Step
-      later = own thread (all_stacked am (earlier ++ x ∷ []) xs)
+      later = steps_of_thread thread (with_stacks_of am (earlier ++ x ∷ []) xs)
 
-      by : (b : Bool) → AllLocated m (map (λ (y : Step). y.seen) later) (own_seen thread xs)
-          → AllLocated m (map (λ (y : Step). y.seen) (if b then stacked am earlier x ∷ later else later))
-          (map (λ (y : Step). y.seen) (if b then x ∷ own thread xs else own thread xs))
+      by : (b : Bool) → AllLocated m (map (λ (y : Step). y.on_stack) later) (events_on_stack_of thread xs)
+          → AllLocated m (map (λ (y : Step). y.on_stack) (if b then with_stack_of am earlier x ∷ later else later))
+          (map (λ (y : Step). y.on_stack) (if b then x ∷ steps_of_thread thread xs else steps_of_thread thread xs))
       by true rest =
           (located earlier x good.0.0.stack good.1.0 good.2.0 all, rest)
       by false rest = rest
 
 -- ---- the rows of a thread in a piece of a run
 
-module _ (guest : Guest) (past : List Taken) (thread : ℕ) (segment : List Step) (can : CanRun guest)
+module _ (guest : Program) (past : List RunStep) (thread : ℕ) (segment : List Step) (can : CanRun guest)
     (makes : Makes guest past) (piece : IsPiece (steps_of past) segment) where
-  abbrev events : List Seen
-  events = own_seen thread segment
+  abbrev events : List EventOnStack
+  events = events_on_stack_of thread segment
 
   -- those by the map of addresses
-  abbrev fine : List Seen
-  fine = own_seen thread (all_stacked (address_map guest.syms) piece.before segment)
+  abbrev fine : List EventOnStack
+  fine = events_on_stack_of thread (with_stacks_of (address_map guest.syms) piece.before segment)
 
   abbrev by_address : AddrListed
   by_address = addr_rows_in guest.syms thread piece.before segment
@@ -174,7 +174,7 @@ module _ (guest : Guest) (past : List Taken) (thread : ℕ) (segment : List Step
   located_all =
       let order = orderly_split guest.syms [] piece.before (segment ++ piece.after)
       (subst (AreOrderlyAfter guest.syms []) (sym piece.whole) (order_of guest can past makes)) in
-      let on = of_run (λ (x : Step). StandsOn guest.syms x.seen)
+      let on = of_run (λ (x : Step). StandsOn guest.syms x.on_stack)
       (all_on guest can (steps_of past) (order_of guest can past makes)) in
       let small = of_run IsSmallStep (pcs_small guest can past makes) in
       own_located guest.syms thread piece.before segment

@@ -4,33 +4,33 @@ use Rattle.std.proofs.Common.{◌≡◌, ◌⊎◌, inl, inr, ℕ, List, [], ◌
 use Rattle.std.proofs.Common.{subst, suc, ◌∙◌, ◌+◌, Option, None, Some, Result, Ok, Err}
 use Rattle.std.proofs.lemmas.List.{append-nil, map-append}
 use Rattle.outside.specs.Outside.{Leaves, Log, Outside, Output, Tells, puts_of}
-use Rattle.outside.specs.Told.{AreWritten, AreWrittenTo}
+use Rattle.outside.specs.Journal.{AreWritten, AreWrittenTo}
 use Rattle.outside.specs.declared.sink.WriteError.TheVariants as write
 use Rattle.event_costs.specs.Runs.{Run}
 use Rattle.event_costs.specs.declared.event.Event.{Event}
 use Rattle.event_costs.specs.declared.outcome.End.{End}
 use Rattle.cache_lru.specs.Costs.{event_cost}
-use Rattle.guest_sched.specs.Seen.{Seen, next}
-use Rattle.guest_sched.specs.Step.{Told}
+use Rattle.guest_sched.specs.Machine.{Machine, next}
+use Rattle.guest_sched.specs.Step.{MachineStep}
 use Rattle.sym_map.specs.SymbolMap.{SymbolMap}
 use Rattle.shadow_stack.specs.Traces.{stack_of}
 use Rattle.part_dump.specs.Cuts.{Split, cuts}
-use Rattle.part_dump.specs.Steps.{Step, event_of, live, own_events, stack_at, thread_of}
+use Rattle.part_dump.specs.Steps.{Step, event_of, live, events_of_thread, stack_at, thread_of}
 use Rattle.cg_format.specs.declared.trigger.Trigger.{Trigger}
-use Rattle.profile_run.specs.Guest.{Fits, Guest, first_machine, head_of_run}
+use Rattle.profile_run.specs.Program.{Fits, Program, first_machine, head_of_run}
 use Rattle.profile_run.specs.Parts.{Writing, watched_parts}
-use Rattle.profile_run.specs.Runs.{Answers, Does, EndsPart, Ended, HasDone, HasDoneSome, HasFailedAt, HasFailedBehind}
-use Rattle.profile_run.specs.Runs.{IsAtPut, IsAtWrite, IsCut, IsCutShort, IsFrontOfTrace, IsWhole, Runs, whole}
-use Rattle.profile_run.specs.Trace.{IsTraceOf, Makes, Position, Stop, Taken, end_before, events_of, exited, full, going}
-use Rattle.profile_run.specs.Trace.{bytes_to, nobody_ready, or_else, piece_to, pieces, sent, spent, steps_of, taken}
+use Rattle.profile_run.specs.Runs.{Answers, Does, EndsPart, RunEnd, HasDone, HasDoneSome, HasFailedAt, HasFailedBehind}
+use Rattle.profile_run.specs.Runs.{IsAtPut, IsAtWrite, IsCut, IsCutShort, IsFrontOfTrace, IsWhole, Runs, whole_output}
+use Rattle.profile_run.specs.Trace.{IsTraceOf, Makes, Position, Stop, RunStep, end_before, events_of, exit_end, frames_end, next_step}
+use Rattle.profile_run.specs.Trace.{bytes_to, waiting_end, or_else, piece_to, pieces, sent_bytes, budget_end, steps_of, run_step}
 use Rattle.profile_run.specs.declared.run_fault.RunFault.{RunFault}
 use Rattle.profile_run.specs.declared.run_fault.RunFault.TheVariants as fault
 use Rattle.profile_run.proofs.MachineLemmas.{goes_is}
 use Rattle.profile_run.proofs.TraceLemmas.{going-end, going-over, going-step}
 use Rattle.sym_map.specs.AddressMap.{address_map}
 use Rattle.addr_rows.specs.Files.{addr_files, closed_files}
-use Rattle.addr_rows.specs.Stacked.{AreOn, all_stacked, stacked}
-use Rattle.addr_rows.specs.Translated.{translated}
+use Rattle.addr_rows.specs.Stacked.{AreOn, with_stacks_of, with_stack_of}
+use Rattle.addr_rows.specs.Translated.{translation}
 use Rattle.addr_rows.proofs.AddressMapLemmas.{address_code, address_names}
 use Rattle.addr_rows.proofs.AlikeLemmas.{code_back}
 use Rattle.addr_rows.proofs.RestackLemmas as restacks
@@ -40,28 +40,28 @@ use Rattle.run_laws.specs.Addresses.{addr_parts, addressed}
 -- ---- steps with other stacks
 
 -- a step that follows these, and steps
-abbrev retaken : SymbolMap → List Step → Taken → Taken
-retaken m earlier x = record { step = stacked m earlier x.step; output = x.output; threads = x.threads }
+abbrev retaken : SymbolMap → List Step → RunStep → RunStep
+retaken m earlier x = record { step = with_stack_of m earlier x.step; output = x.output; threads = x.threads }
 
-abbrev retook : SymbolMap → List Step → List Taken → List Taken
+abbrev retook : SymbolMap → List Step → List RunStep → List RunStep
 retook m earlier [] = []
 retook m earlier (x ∷ xs) = retaken m earlier x ∷ retook m (earlier ++ x.step ∷ []) xs
 
 module _ (m : SymbolMap) where
-  steps_retook : (earlier : List Step) (xs : List Taken)
-      → steps_of (retook m earlier xs) ≡ all_stacked m earlier (steps_of xs)
+  steps_retook : (earlier : List Step) (xs : List RunStep)
+      → steps_of (retook m earlier xs) ≡ with_stacks_of m earlier (steps_of xs)
   steps_retook earlier [] = refl
-  steps_retook earlier (x ∷ xs) = ap (λ ys. stacked m earlier x.step ∷ ys) (steps_retook (earlier ++ x.step ∷ []) xs)
+  steps_retook earlier (x ∷ xs) = ap (λ ys. with_stack_of m earlier x.step ∷ ys) (steps_retook (earlier ++ x.step ∷ []) xs)
 
-  events_retook : (earlier : List Step) (xs : List Taken) → events_of (retook m earlier xs) ≡ events_of xs
+  events_retook : (earlier : List Step) (xs : List RunStep) → events_of (retook m earlier xs) ≡ events_of xs
   events_retook earlier [] = refl
   events_retook earlier (x ∷ xs) = ap (λ es. event_of x.step ∷ es) (events_retook (earlier ++ x.step ∷ []) xs)
 
-  length_retook : (earlier : List Step) (xs : List Taken) → length (retook m earlier xs) ≡ length xs
+  length_retook : (earlier : List Step) (xs : List RunStep) → length (retook m earlier xs) ≡ length xs
   length_retook earlier [] = refl
   length_retook earlier (x ∷ xs) = ap suc (length_retook (earlier ++ x.step ∷ []) xs)
 
-  retook_append : (earlier : List Step) (xs ys : List Taken)
+  retook_append : (earlier : List Step) (xs ys : List RunStep)
       → retook m earlier (xs ++ ys) ≡ retook m earlier xs ++ retook m (earlier ++ steps_of xs) ys
   retook_append earlier [] ys = ap (λ es. retook m es ys) (sym (append-nil earlier))
   retook_append earlier (x ∷ xs) ys =
@@ -71,45 +71,45 @@ module _ (m : SymbolMap) where
       (append_assoc earlier (x.step ∷ []) (steps_of xs)))
 
   -- what the steps put out stays
-  outputs_retook : {X : Type 0} (f : Option (ℕ × List ℕ) → List X) (earlier : List Step) (xs : List Taken)
-      → flat_map (λ (x : Taken). f x.output) (retook m earlier xs) ≡ flat_map (λ (x : Taken). f x.output) xs
+  outputs_retook : {X : Type 0} (f : Option (ℕ × List ℕ) → List X) (earlier : List Step) (xs : List RunStep)
+      → flat_map (λ (x : RunStep). f x.output) (retook m earlier xs) ≡ flat_map (λ (x : RunStep). f x.output) xs
   outputs_retook f earlier [] = refl
   outputs_retook f earlier (x ∷ xs) = ap (λ ys. f x.output ++ ys) (outputs_retook f (earlier ++ x.step ∷ []) xs)
 
-module _ (guest : Guest) where
+module _ (guest : Program) where
   abbrev m : SymbolMap
   m = guest.syms
 
   abbrev n : SymbolMap
   n = address_map guest.syms
 
-  abbrev other : Guest
+  abbrev other : Program
   other = addressed guest
 
   -- the guest's steps, of those of the other one
-  abbrev its : List Taken → List Taken
+  abbrev its : List RunStep → List RunStep
   its xs = retook m [] xs
 
-  sent_its : (descriptor : ℕ) (xs : List Taken) → sent descriptor xs ≡ sent descriptor (its xs)
+  sent_its : (descriptor : ℕ) (xs : List RunStep) → sent_bytes descriptor xs ≡ sent_bytes descriptor (its xs)
   sent_its descriptor xs = sym (outputs_retook m (bytes_to descriptor) [] xs)
 
-  pieces_its : (descriptor : ℕ) (xs : List Taken) → pieces descriptor xs ≡ pieces descriptor (its xs)
+  pieces_its : (descriptor : ℕ) (xs : List RunStep) → pieces descriptor xs ≡ pieces descriptor (its xs)
   pieces_its descriptor xs = sym (outputs_retook m (piece_to descriptor) [] xs)
 
-  its_append : (xs ys : List Taken) → its (xs ++ ys) ≡ its xs ++ retook m (steps_of xs) ys
+  its_append : (xs ys : List RunStep) → its (xs ++ ys) ≡ its xs ++ retook m (steps_of xs) ys
   its_append xs ys = retook_append m [] xs ys
 
-  own_its : (thread : ℕ) (past : List Taken) → own_events thread (steps_of (its past)) ≡ own_events thread (steps_of past)
+  own_its : (thread : ℕ) (past : List RunStep) → events_of_thread thread (steps_of (its past)) ≡ events_of_thread thread (steps_of past)
   own_its thread past =
-      ap (own_events thread) (steps_retook m [] past) ∙ restacks.own_events_stacked m thread [] (steps_of past)
+      ap (events_of_thread thread) (steps_retook m [] past) ∙ restacks.own_events_stacked m thread [] (steps_of past)
 
   -- ---- runs
 
-  taken_its : (past : List Taken) (told : Told)
-      → taken guest (its past) told ≡ retaken m (steps_of past) (taken other past told)
+  taken_its : (past : List RunStep) (told : MachineStep)
+      → run_step guest (its past) told ≡ retaken m (steps_of past) (run_step other past told)
   taken_its past told = λ i. record {
     step = record {
-      seen = record {
+      on_stack = record {
         event = told.event;
         cost = event_cost guest.options.branch guest.options.shapes (events_retook m [] past i) told.event;
         stack = stack_of m (own_its told.event.thread.0 past i) told.event.done.pc;
@@ -121,25 +121,25 @@ module _ (guest : Guest) where
     threads = told.threads;
   }
 
-  live_its : (past : List Taken) → live m (steps_of (its past)) ≡ live n (steps_of past)
+  live_its : (past : List RunStep) → live m (steps_of (its past)) ≡ live n (steps_of past)
   live_its past =
       ap (live m) (steps_retook m [] past)
       ∙ restacks.live_stacked m n (code_back m n (address_code m)) (address_names m) (steps_of past)
 
-  end_its : (machine : Seen) (past : List Taken) → end_before guest machine (its past) ≡ end_before other machine past
+  end_its : (machine : Machine) (past : List RunStep) → end_before guest machine (its past) ≡ end_before other machine past
   end_its machine past = λ i.
-      or_else (exited machine.whole.exit)
-      (or_else (spent guest.options.budget (length_retook m [] past i))
-      (or_else (full (live_its past i)) (nobody_ready machine.whole.line.ready)))
+      or_else (exit_end machine.engine.exit)
+      (or_else (budget_end guest.options.budget (length_retook m [] past i))
+      (or_else (frames_end (live_its past i)) (waiting_end machine.engine.run_queue.ready)))
 
   -- a run from a position on
-  pub record RunsOn (before past : List Taken) (machine : Seen) (last : Position) : Type 0 where
-    pub run : Run (going guest) (machine, its before) (retook m (steps_of before) past) (last.0, its (before ++ past))
+  pub record RunsOn (before past : List RunStep) (machine : Machine) (last : Position) : Type 0 where
+    pub run : Run (next_step guest) (machine, its before) (retook m (steps_of before) past) (last.0, its (before ++ past))
     pub on : AreOn n (steps_of before) (steps_of past)
     pub is : last.1 ≡ before ++ past
 
-  runs_on : (before past : List Taken) (machine : Seen) (last : Position)
-      → Run (going other) (machine, before) past last → RunsOn before past machine last
+  runs_on : (before past : List RunStep) (machine : Machine) (last : Position)
+      → Run (next_step other) (machine, before) past last → RunsOn before past machine last
   runs_on before [] machine last run = record {
     run = λ i. ((run i).0, its (sym (append-nil before) i));
     on = tt;
@@ -147,11 +147,11 @@ module _ (guest : Guest) where
   }
   runs_on before (x ∷ past) machine last run =
       let g = goes_is other (machine, before) x run.0 run.1 in
-      let rest = runs_on (before ++ x ∷ []) past g.machine last (subst (λ p. Run (going other) p past last) g.after run.2) in
-      let steps = map-append (λ (y : Taken). y.step) before (x ∷ []) in
-      let step : taken guest (its before) g.told ≡ retaken m (steps_of before) x
+      let rest = runs_on (before ++ x ∷ []) past g.machine last (subst (λ p. Run (next_step other) p past last) g.after run.2) in
+      let steps = map-append (λ (y : RunStep). y.step) before (x ∷ []) in
+      let step : run_step guest (its before) g.told ≡ retaken m (steps_of before) x
       = taken_its before g.told ∙ ap (retaken m (steps_of before)) (sym g.is) in
-      let goes : going guest (machine, its before)
+      let goes : next_step guest (machine, its before)
       ≡ Ok (retaken m (steps_of before) x, (g.machine, its (before ++ x ∷ [])))
       = going-step guest (machine, its before) g.told g.machine (end_its machine before ∙ g.none) g.makes
       ∙ (λ i. Ok (step i, (g.machine, its before ++ step i ∷ [])))
@@ -160,37 +160,37 @@ module _ (guest : Guest) where
         run = (
           (g.machine, its (before ++ x ∷ [])),
           goes,
-          subst (λ es. Run (going guest) (g.machine, its (before ++ x ∷ [])) (retook m es past)
+          subst (λ es. Run (next_step guest) (g.machine, its (before ++ x ∷ [])) (retook m es past)
               (last.0, its (before ++ x ∷ past))) steps
-              (subst (λ zs. Run (going guest) (g.machine, its (before ++ x ∷ []))
+              (subst (λ zs. Run (next_step guest) (g.machine, its (before ++ x ∷ []))
               (retook m (steps_of (before ++ x ∷ [])) past) (last.0, its zs)) (append_assoc before (x ∷ []) past)
               rest.run),
         );
         on = (
-          subst (λ (z : Taken). z.step.seen.stack
+          subst (λ (z : RunStep). z.step.on_stack.stack
               ≡ stack_at n (steps_of before) (thread_of z.step) (event_of z.step).done.pc) (sym g.is) refl,
           subst (λ es. AreOn n es (steps_of past)) steps rest.on,
         );
         is = rest.is ∙ append_assoc before (x ∷ []) past;
       }
 
-  pub makes_its : (past : List Taken) → Makes other past → Makes guest (its past)
+  pub makes_its : (past : List RunStep) → Makes other past → Makes guest (its past)
   makes_its past makes =
       let all = runs_on [] past (first_machine guest) makes.last makes.run in
       record { last = (makes.last.0, its past); run = all.run }
 
-  pub made_on : (past : List Taken) → Makes other past → AreOn n [] (steps_of past)
+  pub made_on : (past : List RunStep) → Makes other past → AreOn n [] (steps_of past)
   made_on past makes = (runs_on [] past (first_machine guest) makes.last makes.run).on
 
   not_both : {A E : Type 0} (a : A) (e : E) → ◌≡◌ {A = Result A E} (Ok a) (Err e) → ⊥
   not_both a e is = cc
 
-  stops_its : (machine : Seen) (past : List Taken) (stop : Stop) → going other (machine, past) ≡ Err stop
-      → going guest (machine, its past) ≡ Err stop
+  stops_its : (machine : Machine) (past : List RunStep) (stop : Stop) → next_step other (machine, past) ≡ Err stop
+      → next_step guest (machine, its past) ≡ Err stop
   stops_its machine past stop is = by (end_before other machine past) refl (next machine) refl
     where
-      by : (o : Option End) → end_before other machine past ≡ o → (r : Result (Told × Seen) End) → next machine ≡ r
-          → going guest (machine, its past) ≡ Err stop
+      by : (o : Option End) → end_before other machine past ≡ o → (r : Result (MachineStep × Machine) End) → next machine ≡ r
+          → next_step guest (machine, its past) ≡ Err stop
       by (Some end) over r made =
           going-over guest (machine, its past) end (end_its machine past ∙ over)
           ∙ sym (going-over other (machine, past) end over) ∙ is
@@ -200,73 +200,73 @@ module _ (guest : Guest) where
       by None none (Ok made) makes =
           absurd (not_both _ stop (sym (going-step other (machine, past) made.0 made.1 none makes) ∙ is))
 
-  pub trace_its : (trace : List Taken) (stop : Stop) → IsTraceOf other trace stop → IsTraceOf guest (its trace) stop
+  pub trace_its : (trace : List RunStep) (stop : Stop) → IsTraceOf other trace stop → IsTraceOf guest (its trace) stop
   trace_its trace stop is =
       let all = runs_on [] trace (first_machine guest) is.last is.run in
       record {
         last = (is.last.0, its trace);
         run = all.run;
         stop = stops_its is.last.0 trace stop
-            (ap (λ past. going other (is.last.0, past)) (sym all.is) ∙ is.stop);
+            (ap (λ past. next_step other (is.last.0, past)) (sym all.is) ∙ is.stop);
       }
 
-  trace_on : (trace : List Taken) (stop : Stop) → IsTraceOf other trace stop → AreOn n [] (steps_of trace)
+  trace_on : (trace : List RunStep) (stop : Stop) → IsTraceOf other trace stop → AreOn n [] (steps_of trace)
   trace_on trace stop is = made_on trace (record { last = is.last; run = is.run })
 
-  front_on : (past later : List Taken) → AreOn n [] (steps_of (past ++ later)) → AreOn n [] (steps_of past)
+  front_on : (past later : List RunStep) → AreOn n [] (steps_of (past ++ later)) → AreOn n [] (steps_of past)
   front_on past later on =
       (restacks.on_append n [] (steps_of past) (steps_of later)
-      (subst (AreOn n []) (map-append (λ (y : Taken). y.step) past later) on)).0
+      (subst (AreOn n []) (map-append (λ (y : RunStep). y.step) past later) on)).0
 
   -- ---- files
 
   abbrev given : Writing
-  given = watched_parts translated m other
+  given = watched_parts translation m other
 
   abbrev told : Writing
   told = addr_parts guest
 
-  whole_files : (trace : List Taken) (stop : Stop) → IsTraceOf other trace stop
+  whole_files : (trace : List RunStep) (stop : Stop) → IsTraceOf other trace stop
       → given.whole (steps_of trace) stop.tried ≡ told.whole (steps_of (its trace)) stop.tried
   whole_files trace stop is =
-      files.whole m (head_of_run guest) guest.options.base guest.options.asked (steps_of trace)
+      files.whole m (head_of_run guest) guest.options.base guest.options.dump_points (steps_of trace)
       (trace_on trace stop is) stop.tried
-      ∙ ap (addr_files (head_of_run guest) m guest.options.base guest.options.asked) (sym (steps_retook m [] trace))
+      ∙ ap (addr_files (head_of_run guest) m guest.options.base guest.options.dump_points) (sym (steps_retook m [] trace))
 
-  cut_files : (past : List Taken) → AreOn n [] (steps_of past)
+  cut_files : (past : List RunStep) → AreOn n [] (steps_of past)
       → given.at_cuts (steps_of past) ≡ told.at_cuts (steps_of (its past))
   cut_files past on =
-      files.so_far m (head_of_run guest) guest.options.base guest.options.asked (steps_of past) on
-      ∙ ap (λ xs. closed_files (head_of_run guest) m guest.options.base (cuts m guest.options.asked xs).closed)
+      files.so_far m (head_of_run guest) guest.options.base guest.options.dump_points (steps_of past) on
+      ∙ ap (λ xs. closed_files (head_of_run guest) m guest.options.base (cuts m guest.options.dump_points xs).closed)
       (sym (steps_retook m [] past))
 
-  cuts_its : (past : List Taken) → AreOn n [] (steps_of past)
-      → cuts m guest.options.asked (steps_of (its past))
-      ≡ restacks.resplit m [] (cuts n guest.options.asked (steps_of past))
+  cuts_its : (past : List RunStep) → AreOn n [] (steps_of past)
+      → cuts m guest.options.dump_points (steps_of (its past))
+      ≡ restacks.resplit m [] (cuts n guest.options.dump_points (steps_of past))
   cuts_its past on =
-      ap (cuts m guest.options.asked) (steps_retook m [] past)
-      ∙ restacks.cuts_stacked m n (code_back m n (address_code m)) (address_names m) guest.options.asked
+      ap (cuts m guest.options.dump_points) (steps_retook m [] past)
+      ∙ restacks.cuts_stacked m n (code_back m n (address_code m)) (address_names m) guest.options.dump_points
       (steps_of past) on
 
-  ends_part : (part : ℕ) (past : List Taken) → AreOn n [] (steps_of past) → EndsPart other part past
+  ends_part : (part : ℕ) (past : List RunStep) → AreOn n [] (steps_of past) → EndsPart other part past
       → EndsPart guest part (its past)
   ends_part part past on ends = by ends
     where
-      closed : length (cuts m guest.options.asked (steps_of (its past))).closed
-          ≡ length (cuts n guest.options.asked (steps_of past)).closed
+      closed : length (cuts m guest.options.dump_points (steps_of (its past))).closed
+          ≡ length (cuts n guest.options.dump_points (steps_of past)).closed
       closed =
           ap (λ (s : Split Step Trigger). length s.closed) (cuts_its past on)
-          ∙ restacks.restacked_length m [] (cuts n guest.options.asked (steps_of past)).closed
+          ∙ restacks.restacked_length m [] (cuts n guest.options.dump_points (steps_of past)).closed
 
-      none : (recent : List Step) → recent ≡ [] → all_stacked m
-          (restacks.steps_in (cuts n guest.options.asked (steps_of past)).closed) recent ≡ []
-      none recent is = ap (all_stacked m (restacks.steps_in (cuts n guest.options.asked (steps_of past)).closed)) is
+      none : (recent : List Step) → recent ≡ [] → with_stacks_of m
+          (restacks.steps_in (cuts n guest.options.dump_points (steps_of past)).closed) recent ≡ []
+      none recent is = ap (with_stacks_of m (restacks.steps_in (cuts n guest.options.dump_points (steps_of past)).closed)) is
 
       by : EndsPart other part past → EndsPart guest part (its past)
       by (inl (many, last)) = inl (
         closed ∙ many,
         ap (λ (s : Split Step Trigger). s.recent) (cuts_its past on)
-            ∙ none (cuts n guest.options.asked (steps_of past)).recent last,
+            ∙ none (cuts n guest.options.dump_points (steps_of past)).recent last,
       )
       by (inr (many, stopped)) =
           inr (ap (λ k. k + 1) closed ∙ many, (stopped.0, trace_its past stopped.0 stopped.1))
@@ -276,8 +276,8 @@ module _ (guest : Guest) where
   fits : Fits other → Fits guest
   fits are = record { arguments = are.arguments; pages = are.pages }
 
-  outputs : (trace : List Taken) (stop : Stop) → IsTraceOf other trace stop
-      → whole given trace stop ≡ whole told (its trace) stop
+  outputs : (trace : List RunStep) (stop : Stop) → IsTraceOf other trace stop
+      → whole_output given trace stop ≡ whole_output told (its trace) stop
   outputs trace stop is = λ i. record {
     files = whole_files trace stop is i;
     refused = None;
@@ -322,7 +322,7 @@ module _ (guest : Guest) where
         (sent_its 2 at.past);
   }
 
-  runs : (old : Outside) (answer : Result Ended RunFault) (output : Output) (new : Outside)
+  runs : (old : Outside) (answer : Result RunEnd RunFault) (output : Output) (new : Outside)
       → Runs given other old answer output new → Runs told guest old answer output new
   unfolding trace_its
   runs old (Ok run) output new r = (
@@ -358,10 +358,10 @@ module _ (guest : Guest) where
     err = subst (λ ps. AreWritten ps log.err) (pieces_its 2 d.trace) d.err;
   }
 
-  parts_of : (trace past later : List Taken) → trace ≡ past ++ later → its trace ≡ its past ++ retook m (steps_of past) later
+  parts_of : (trace past later : List RunStep) → trace ≡ past ++ later → its trace ≡ its past ++ retook m (steps_of past) later
   parts_of trace past later are = ap its are ∙ its_append past later
 
-  past_on : (trace past later : List Taken) (stop : Stop) → IsTraceOf other trace stop → trace ≡ past ++ later
+  past_on : (trace past later : List RunStep) (stop : Stop) → IsTraceOf other trace stop → trace ≡ past ++ later
       → AreOn n [] (steps_of past)
   past_on trace past later stop is are =
       front_on past later (subst (λ xs. AreOn n [] (steps_of xs)) are (trace_on trace stop is))
@@ -405,7 +405,7 @@ module _ (guest : Guest) where
         err = subst (λ ps. AreWrittenTo write.Failed ps (piece_to 2 f.last.output) log.err) (pieces_its 2 f.past) f.err;
       }
 
-  front_its : (past : List Taken) (last : Option (ℕ × List ℕ)) (trace : List Taken) → IsFrontOfTrace past last trace
+  front_its : (past : List RunStep) (last : Option (ℕ × List ℕ)) (trace : List RunStep) → IsFrontOfTrace past last trace
       → IsFrontOfTrace (its past) last (its trace)
   front_its past None trace front = (retook m (steps_of past) front.0, parts_of trace past front.0 front.1)
   front_its past (Some output) trace front = (
@@ -434,7 +434,7 @@ module _ (guest : Guest) where
     err = subst (λ ps. AreWrittenTo d.error ps (piece_to 2 d.last) log.err) (pieces_its 2 d.past) d.err;
   }
 
-  does : (answer : Result Ended RunFault) (log : Log) → Does given other answer log → Does told guest answer log
+  does : (answer : Result RunEnd RunFault) (log : Log) → Does given other answer log → Does told guest answer log
   does (Ok run) log d = done log d
   does (Err (fault.ArgsTooLong len)) log d = d
   does (Err fault.GuestFull) log d = d
@@ -443,7 +443,7 @@ module _ (guest : Guest) where
   does (Err (fault.OutOfMemory _)) log (inl d) = inl (done_some log d)
   does (Err (fault.OutOfMemory _)) log (inr none) = inr none
 
-  pub answers : (old : Outside) (answer : Result Ended RunFault) (new : Outside) → Answers given other old answer new
+  pub answers : (old : Outside) (answer : Result RunEnd RunFault) (new : Outside) → Answers given other old answer new
       → Answers told guest old answer new
   answers old answer new a = record {
     output = a.output;

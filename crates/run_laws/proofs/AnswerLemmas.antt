@@ -7,21 +7,21 @@ use Rattle.outside.specs.Outside.{Log, Outside, Output, puts_of}
 use Rattle.event_costs.specs.declared.numbers.ThreadNo.{ThreadNo}
 use Rattle.arc_costs.specs.Contents.{Listed}
 use Rattle.sym_map.specs.SymbolMap.{SymbolMap}
-use Rattle.shadow_stack.specs.Traces.{Seen}
+use Rattle.shadow_stack.specs.Traces.{EventOnStack}
 use Rattle.cg_format.specs.Part.{AreKnown}
 use Rattle.part_dump.specs.Calls.{closed_calls, steps_calls}
 use Rattle.part_dump.specs.Cuts.{cuts}
-use Rattle.part_dump.specs.Steps.{Step, event_of, own, own_events, own_seen, thread_of}
+use Rattle.part_dump.specs.Steps.{Step, event_of, steps_of_thread, events_of_thread, events_on_stack_of, thread_of}
 use Rattle.recorder.specs.Laws.{IsIn}
 use Rattle.recorder.specs.Rows.{rows_of}
 use Rattle.recorder.specs.inner.Known.{KnowsPlaces}
 use Rattle.recorder.proofs.ListLemmas.{in_left, in_right, of_all, from_map, in_filter, all_of}
 use Rattle.recorder.proofs.KnownLemmas.{AreKnownIn, stack_known}
-use Rattle.profile_run.specs.Guest.{Guest, head_of_run, CanRun}
+use Rattle.profile_run.specs.Program.{Program, head_of_run, CanRun}
 use Rattle.profile_run.specs.Parts.{Writing, watched_parts}
-use Rattle.profile_run.specs.Runs.{Does, Ended, HasDone, HasDoneSome, HasFailedAt, HasFailedBehind}
-use Rattle.profile_run.specs.Runs.{IsAtWrite, IsCut, IsCutShort, Runs, whole}
-use Rattle.profile_run.specs.Trace.{IsTraceOf, Makes, Stop, Taken, sent, steps_of}
+use Rattle.profile_run.specs.Runs.{Does, RunEnd, HasDone, HasDoneSome, HasFailedAt, HasFailedBehind}
+use Rattle.profile_run.specs.Runs.{IsAtWrite, IsCut, IsCutShort, Runs, whole_output}
+use Rattle.profile_run.specs.Trace.{IsTraceOf, Makes, Stop, RunStep, sent_bytes, steps_of}
 use Rattle.profile_run.specs.declared.run_fault.RunFault.{RunFault}
 use Rattle.profile_run.specs.declared.run_fault.RunFault.TheVariants as fault
 use Rattle.profile_run.proofs.KnownLemmas as known_rows
@@ -29,7 +29,7 @@ use Rattle.ctx_rows.specs.Folding.{AreSumsOf, plain}
 use Rattle.ctx_rows.specs.Rows.{ctx_rows_of}
 use Rattle.once_each.specs.Runs.{AreOrderly, AreOrderlyAfter}
 use Rattle.ctx_rows.specs.Since.{StandsOn}
-use Rattle.ctx_rows.specs.States.{State}
+use Rattle.ctx_rows.specs.States.{CtxState}
 use Rattle.ctx_rows.specs.Watching.{IsFresh, by_context}
 use Rattle.ctx_rows.proofs.FoldedLemmas.{folded_are}
 use Rattle.ctx_rows.proofs.HoldsLemmas.{IsReached}
@@ -41,14 +41,14 @@ use Rattle.run_laws.proofs.WatchedLemmas as watched
 
 pub each_reached : (syms : SymbolMap) (earlier xs : List Step) → AreOrderlyAfter syms earlier xs
     → (y : Step) → IsIn xs y
-    → IsReached syms y.seen
+    → IsReached syms y.on_stack
 each_reached syms earlier [] order y there = elim there [ ]
 each_reached syms earlier (x ∷ xs) order y (inl is) =
-    subst (λ (z : Step). IsReached syms z.seen) is
-    (record { events = own_events (thread_of x) earlier; first = (event_of x).done.pc; is = order.0.stack })
+    subst (λ (z : Step). IsReached syms z.on_stack) is
+    (record { events = events_of_thread (thread_of x) earlier; first = (event_of x).done.pc; is = order.0.stack })
 each_reached syms earlier (x ∷ xs) order y (inr there) = each_reached syms (earlier ++ x ∷ []) xs order.1 y there
 
-module _ (guest : Guest) (can : CanRun guest) where
+module _ (guest : Program) (can : CanRun guest) where
   knows : KnowsPlaces guest.syms
   knows address = (can.sound.place_functions address, can.sound.place_files address)
 
@@ -60,77 +60,77 @@ module _ (guest : Guest) (can : CanRun guest) where
         subst (λ (ys : List Step). IsIn ys y) whole_is
         (in_right before (segment ++ after) y (in_left segment after y there))
 
-    stacks : (thread : ℕ) (segment : List Step) → ((y : Step) → IsIn segment y → IsIn steps y) → (x : Seen)
-        → IsIn (own_seen thread segment) x → AreKnownIn guest.syms knows x.stack
+    stacks : (thread : ℕ) (segment : List Step) → ((y : Step) → IsIn segment y → IsIn steps y) → (x : EventOnStack)
+        → IsIn (events_on_stack_of thread segment) x → AreKnownIn guest.syms knows x.stack
     stacks thread segment inside x there =
-        let y = from_map (λ (z : Step). z.seen) (own thread segment) x there in
+        let y = from_map (λ (z : Step). z.on_stack) (steps_of_thread thread segment) x there in
         let in_segment = (in_filter (λ (z : Step). thread_of z == thread) segment y.0 y.1).0 in
         let has = each_reached guest.syms [] steps order y.0 (inside y.0 in_segment) in
-        subst (λ (z : Seen). AreKnownIn guest.syms knows z.stack) y.2
+        subst (λ (z : EventOnStack). AreKnownIn guest.syms knows z.stack) y.2
         (subst (AreKnownIn guest.syms knows) (sym has.is)
         (stack_known guest.syms knows has.events has.first))
 
-    pub known : (thread : ℕ) (before segment after : List Step) → before ++ (segment ++ after) ≡ steps
-        → AreKnown guest.syms (rows_of guest.syms (own_seen thread segment))
-    known thread before segment after whole_is =
-        known_rows.rows_known guest.syms knows (own_seen thread segment)
+    pub threads_are_known : (thread : ℕ) (before segment after : List Step) → before ++ (segment ++ after) ≡ steps
+        → AreKnown guest.syms (rows_of guest.syms (events_on_stack_of thread segment))
+    threads_are_known thread before segment after whole_is =
+        known_rows.rows_known guest.syms knows (events_on_stack_of thread segment)
         (stacks thread segment (within before segment after whole_is))
 
-    module _ (first : State) (fresh : IsFresh first) where
+    module _ (first : CtxState) (fresh : IsFresh first) where
       pub cut_files : (watched_parts by_context first guest).at_cuts steps
           ≡ (ctx_parts first.callers guest).at_cuts steps
       cut_files =
           cut_puts (rows_of guest.syms) (head_of_run guest) guest.syms guest.options.base
-          guest.options.asked steps first
+          guest.options.dump_points steps first
           fresh
-          (watched.so_far_watched guest.syms (rows_of guest.syms) (head_of_run guest) guest.options.asked
-          steps known order)
+          (watched.so_far_watched guest.syms (rows_of guest.syms) (head_of_run guest) guest.options.dump_points
+          steps threads_are_known order)
 
       pub run_files : (tried : Option (ThreadNo × ℕ)) → (watched_parts by_context first guest).whole steps tried
           ≡ (ctx_parts first.callers guest).whole steps tried
       run_files tried =
           run_puts (rows_of guest.syms) (head_of_run guest) guest.syms guest.options.base
-          guest.options.asked steps first
+          guest.options.dump_points steps first
           fresh tried
-          (watched.run_watched guest.syms (rows_of guest.syms) (head_of_run guest) guest.options.asked steps known order
+          (watched.run_watched guest.syms (rows_of guest.syms) (head_of_run guest) guest.options.dump_points steps threads_are_known order
           tried)
 
     -- all its events stand on their stacks
-    pub all_on : AllByRecursion (λ (x : Step). StandsOn guest.syms x.seen) steps
+    pub all_on : AllByRecursion (λ (x : Step). StandsOn guest.syms x.on_stack) steps
     all_on =
-        subst (AllByRecursion (λ (x : Step). StandsOn guest.syms x.seen))
-        (watched.steps_are guest.syms (rows_of guest.syms) (head_of_run guest) guest.options.asked steps known order)
+        subst (AllByRecursion (λ (x : Step). StandsOn guest.syms x.on_stack))
+        (watched.steps_are guest.syms (rows_of guest.syms) (head_of_run guest) guest.options.dump_points steps threads_are_known order)
         (all_stand guest.syms (closed_calls (rows_of guest.syms) (head_of_run guest)
-        (cuts guest.syms guest.options.asked steps).closed
-        ++ steps_calls (cuts guest.syms guest.options.asked steps).recent)
-        (watched.so_far_watched guest.syms (rows_of guest.syms) (head_of_run guest) guest.options.asked
-        steps known order))
+        (cuts guest.syms guest.options.dump_points steps).closed
+        ++ steps_calls (cuts guest.syms guest.options.dump_points steps).recent)
+        (watched.so_far_watched guest.syms (rows_of guest.syms) (head_of_run guest) guest.options.dump_points
+        steps threads_are_known order))
 
     -- the rows by context of a thread's events among them fold back to its plain rows
     pub folds_back : (callers thread : ℕ) (segment : List Step) (rows : Listed)
         → ((y : Step) → IsIn segment y → IsIn steps y)
-        → AreSumsOf (plain (ctx_rows_of callers guest.syms (own_seen thread segment))) rows
-        → rows ≡ rows_of guest.syms (own_seen thread segment)
+        → AreSumsOf (plain (ctx_rows_of callers guest.syms (events_on_stack_of thread segment))) rows
+        → rows ≡ rows_of guest.syms (events_on_stack_of thread segment)
     folds_back callers thread segment rows inside sums =
-        folded_are callers guest.syms (own_seen thread segment)
-        (all_of (StandsOn guest.syms) (own_seen thread segment) on) rows sums
+        folded_are callers guest.syms (events_on_stack_of thread segment)
+        (all_of (StandsOn guest.syms) (events_on_stack_of thread segment) on) rows sums
       where
-        on : (x : Seen) → IsIn (own_seen thread segment) x → StandsOn guest.syms x
+        on : (x : EventOnStack) → IsIn (events_on_stack_of thread segment) x → StandsOn guest.syms x
         on x there =
-            let y = from_map (λ (z : Step). z.seen) (own thread segment) x there in
+            let y = from_map (λ (z : Step). z.on_stack) (steps_of_thread thread segment) x there in
             let in_segment =
             (in_filter (λ (z : Step). thread_of z == thread) segment y.0 y.1).0 in
             subst (StandsOn guest.syms) y.2
-            (of_all (λ (z : Step). StandsOn guest.syms z.seen) steps all_on y.0 (inside y.0 in_segment))
+            (of_all (λ (z : Step). StandsOn guest.syms z.on_stack) steps all_on y.0 (inside y.0 in_segment))
 
-  pub order_of : (past : List Taken) → Makes guest past → AreOrderly guest.syms (steps_of past)
+  pub order_of : (past : List RunStep) → Makes guest past → AreOrderly guest.syms (steps_of past)
   order_of past makes = orderly guest can past makes
 
-  pub front : (past : List Taken) (last : Taken) → Makes guest (past ++ last ∷ [])
+  pub front : (past : List RunStep) (last : RunStep) → Makes guest (past ++ last ∷ [])
       → AreOrderly guest.syms (steps_of past)
   front past last makes =
       (watched.orderly_split guest.syms [] (steps_of past) (last.step ∷ [])
-      (subst (AreOrderly guest.syms) (map-append (λ (y : Taken). y.step) past (last ∷ []))
+      (subst (AreOrderly guest.syms) (map-append (λ (y : RunStep). y.step) past (last ∷ []))
       (order_of (past ++ last ∷ []) makes))).0
 
   -- ---- answers
@@ -141,12 +141,12 @@ module _ (guest : Guest) (can : CanRun guest) where
       (run_files : (steps : List Step) → AreOrderly guest.syms steps → (tried : Option (ThreadNo × ℕ))
       → given.whole steps tried ≡ told.whole steps tried)
     where
-      outputs : (trace : List Taken) (stop : Stop) → IsTraceOf guest trace stop
-          → whole given trace stop ≡ whole told trace stop
+      outputs : (trace : List RunStep) (stop : Stop) → IsTraceOf guest trace stop
+          → whole_output given trace stop ≡ whole_output told trace stop
       outputs trace stop is =
           let files = run_files (steps_of trace) (order_of trace (record { last = is.last; run = is.run }))
           stop.tried in
-          λ i. record { files = files i; refused = None; out = sent 1 trace; err = sent 2 trace }
+          λ i. record { files = files i; refused = None; out = sent_bytes 1 trace; err = sent_bytes 2 trace }
 
       cut_short : (output : Output) → IsCutShort given guest output → IsCutShort told guest output
       cut_short output short = record {
@@ -172,7 +172,7 @@ module _ (guest : Guest) (can : CanRun guest) where
         err = at.err;
       }
 
-      pub same_runs : (old : Outside) (answer : Result Ended RunFault) (output : Output) (new : Outside)
+      pub same_runs : (old : Outside) (answer : Result RunEnd RunFault) (output : Output) (new : Outside)
           → Runs given guest old answer output new → Runs told guest old answer output new
       same_runs old (Ok run) output new r = (
         r.0,
@@ -196,7 +196,7 @@ module _ (guest : Guest) (can : CanRun guest) where
 
       -- ---- call by call
 
-      pub same_whole : (trace : List Taken) (stop : Stop) → IsTraceOf guest trace stop
+      pub same_whole : (trace : List RunStep) (stop : Stop) → IsTraceOf guest trace stop
           → given.whole (steps_of trace) stop.tried ≡ told.whole (steps_of trace) stop.tried
       same_whole trace stop is =
           run_files (steps_of trace) (order_of trace (record { last = is.last; run = is.run })) stop.tried
@@ -231,12 +231,12 @@ module _ (guest : Guest) (can : CanRun guest) where
       }
 
       -- the steps up to one that a trace makes
-      earlier : (trace past : List Taken) (last : Taken) (later : List Taken) (stop : Stop) → IsTraceOf guest trace stop
+      earlier : (trace past : List RunStep) (last : RunStep) (later : List RunStep) (stop : Stop) → IsTraceOf guest trace stop
           → trace ≡ past ++ last ∷ later → AreOrderly guest.syms (steps_of past)
       earlier trace past last later stop is steps =
           (watched.orderly_split guest.syms [] (steps_of past) (steps_of (last ∷ later))
           (subst (AreOrderly guest.syms)
-          (ap steps_of steps ∙ map-append (λ (y : Taken). y.step) past (last ∷ later))
+          (ap steps_of steps ∙ map-append (λ (y : RunStep). y.step) past (last ∷ later))
           (order_of trace (record { last = is.last; run = is.run })))).0
 
       failed_behind : (log : Log) → HasFailedBehind given guest log → HasFailedBehind told guest log
@@ -278,7 +278,7 @@ module _ (guest : Guest) (can : CanRun guest) where
         err = d.err;
       }
 
-      pub same_does : (answer : Result Ended RunFault) (log : Log) → Does given guest answer log
+      pub same_does : (answer : Result RunEnd RunFault) (log : Log) → Does given guest answer log
           → Does told guest answer log
       same_does (Ok run) log d = done log d
       same_does (Err (fault.ArgsTooLong len)) log d = d
@@ -288,22 +288,22 @@ module _ (guest : Guest) (can : CanRun guest) where
       same_does (Err (fault.OutOfMemory _)) log (inl d) = inl (done_some log d)
       same_does (Err (fault.OutOfMemory _)) log (inr none) = inr none
 
-  module _ (first : State) (fresh : IsFresh first) where
-    pub wholes : (trace : List Taken) (stop : Stop) → IsTraceOf guest trace stop
+  module _ (first : CtxState) (fresh : IsFresh first) where
+    pub wholes : (trace : List RunStep) (stop : Stop) → IsTraceOf guest trace stop
         → (watched_parts by_context first guest).whole (steps_of trace) stop.tried
         ≡ (ctx_parts first.callers guest).whole (steps_of trace) stop.tried
     wholes =
         same_whole (watched_parts by_context first guest) (ctx_parts first.callers guest)
         (λ steps order. cut_files steps order first fresh) (λ steps order. run_files steps order first fresh)
 
-    pub does : (answer : Result Ended RunFault) (log : Log)
+    pub does : (answer : Result RunEnd RunFault) (log : Log)
         → Does (watched_parts by_context first guest) guest answer log
         → Does (ctx_parts first.callers guest) guest answer log
     does =
         same_does (watched_parts by_context first guest) (ctx_parts first.callers guest)
         (λ steps order. cut_files steps order first fresh) (λ steps order. run_files steps order first fresh)
 
-    pub runs : (old : Outside) (answer : Result Ended RunFault) (output : Output) (new : Outside)
+    pub runs : (old : Outside) (answer : Result RunEnd RunFault) (output : Output) (new : Outside)
         → Runs (watched_parts by_context first guest) guest old answer output new
         → Runs (ctx_parts first.callers guest) guest old answer output new
     runs =

@@ -9,8 +9,8 @@ use Rattle.cg_read.specs.Totals.{total}
 use Rattle.cycles.specs.Costs.{IsGroupsOf, IsInclusive, call_arcs, group_at, inclusive_cost}
 use Rattle.cycles.specs.Limits.{AreAllWithin, pair_cost}
 use Rattle.cycles.proofs.CountLemmas.{arcs_within}
-use Rattle.profile_run.specs.Guest.{Guest, head_of_run, CanRun}
-use Rattle.profile_run.specs.Trace.{Makes, Taken}
+use Rattle.profile_run.specs.Program.{Program, head_of_run, CanRun}
+use Rattle.profile_run.specs.Trace.{Makes, RunStep}
 use Rattle.once_each.specs.Graphs.{AreOwn, AreOwnIn, IsOwn}
 use Rattle.once_each.specs.Once.{once, once_pair}
 use Rattle.once_each.specs.Profiles.{IsProfileOf, Numbering}
@@ -23,11 +23,11 @@ use Rattle.reads_back.specs.Rows.{naming}
 use Rattle.reads_back.proofs.JoinedLemmas.{own_texts}
 use Rattle.run_laws.specs.Profiles.{CountOnce, IsProfileOfRun, graph_of_run, number_in}
 use Rattle.run_laws.specs.Profiles as run
-use Rattle.run_laws.specs.Runs.{events_counted, events_seen, thread_rows}
+use Rattle.run_laws.specs.Runs.{events_with_costs, events_with_stacks, thread_rows}
 use Rattle.run_laws.proofs.EventLemmas.{have_stacks, of_map, sized_seen, tops}
 use Rattle.run_laws.proofs.PartLemmas.{parts_of_trace}
 
-module _ (guest : Guest) (can : CanRun guest) (past : List Taken) (makes : Makes guest past) (p : Contents)
+module _ (guest : Program) (can : CanRun guest) (past : List RunStep) (makes : Makes guest past) (p : Contents)
     (is : IsProfileOfRun guest past p) where
   abbrev names : Naming
   names = naming (head_of_run guest) guest.syms
@@ -35,7 +35,7 @@ module _ (guest : Guest) (can : CanRun guest) (past : List Taken) (makes : Makes
   abbrev numbers : Numbering
   numbers = numbers_in p names
 
-  read : IsReadOf guest.syms (events_counted past) names p
+  read : IsReadOf guest.syms (events_with_costs past) names p
   read = record {
     profile = is.profile;
     parts = thread_rows guest past;
@@ -45,26 +45,26 @@ module _ (guest : Guest) (can : CanRun guest) (past : List Taken) (makes : Makes
     call_rows = is.rows.call_rows;
   }
 
-  pub of_trace : IsProfileOf guest.syms (events_counted past) numbers p
-  of_trace = read_is guest.syms (events_counted past) names p read
+  pub of_trace : IsProfileOf guest.syms (events_with_costs past) numbers p
+  of_trace = read_is guest.syms (events_with_costs past) names p read
 
   own : AreOwn guest.syms names.func
   own f known g known_g same =
       (own_texts (head_of_run guest) guest.syms can.sound).functions g f known_g known same
 
   own_in : AreOwnIn guest.syms (graph_of_run guest past) numbers.func
-  own_in = numbered_parts guest.syms (events_counted past) names p read own (of_map guest can past)
+  own_in = numbered_parts guest.syms (events_with_costs past) names p read own (of_map guest can past)
 
   own_number : (f : ℕ) → f < length guest.syms.functions → number_in guest p f < length p.functions
       → IsOwn guest.syms numbers.func f
-  own_number f known there = numbered_own guest.syms (events_counted past) names p read f own known there
+  own_number f known there = numbered_own guest.syms (events_with_costs past) names p read f own known there
 
   -- groups
 
   pub group_is : (member : ℕ → Bool) (kind : ℕ) → kind < length p.events → IsGroup (Steps (call_arcs p)) member
-      → inclusive_cost member p kind ≡ once (λ f. member (number_in guest p f)) kind (events_seen past)
+      → inclusive_cost member p kind ≡ once (λ f. member (number_in guest p f)) kind (events_with_stacks past)
   group_is member kind within group =
-      group_once guest.syms (events_counted past) numbers p of_trace member kind (tops guest can past makes) within
+      group_once guest.syms (events_with_costs past) numbers p of_trace member kind (tops guest can past makes) within
       group
       ∙ ap (once (λ f. member (number_in guest p f)) kind) (sym (have_stacks guest can past makes))
 
@@ -72,9 +72,9 @@ module _ (guest : Guest) (can : CanRun guest) (past : List Taken) (makes : Makes
       → func < length guest.syms.functions → number_in guest p func < length p.functions
       → IsGroup (Steps (graph_of_run guest past)) group → group func ≡ true
       → IsGroup (Steps (call_arcs p)) member → member (number_in guest p func) ≡ true
-      → inclusive_cost member p kind ≡ once group kind (events_seen past)
+      → inclusive_cost member p kind ≡ once group kind (events_with_stacks past)
   function_is group member func kind within known there of_graph here of_profile theirs =
-      function_once guest.syms (events_counted past) (of_map guest can past) numbers p of_trace own_in group member func
+      function_once guest.syms (events_with_costs past) (of_map guest can past) numbers p of_trace own_in group member func
       kind (tops guest can past makes) within known (own_number func known there) of_graph here of_profile theirs
       ∙ ap (once group kind) (sym (have_stacks guest can past makes))
 
@@ -83,7 +83,7 @@ module _ (guest : Guest) (can : CanRun guest) (past : List Taken) (makes : Makes
       → SameGroup (Steps (graph_of_run guest past)) f g
       ↔ SameGroup (Steps (call_arcs p)) (number_in guest p f) (number_in guest p g)
   groups_are f g known_f known_g there =
-      known_groups guest.syms (events_counted past) (of_map guest can past) numbers p of_trace own_in f g
+      known_groups guest.syms (events_with_costs past) (of_map guest can past) numbers p of_trace own_in f g
       known_f known_g
       (own_number f known_f there)
 
@@ -104,7 +104,7 @@ module _ (guest : Guest) (can : CanRun guest) (past : List Taken) (makes : Makes
       → group_at groups caller ≢ group_at groups callee
       → pair_cost caller callee p.call_rows kind ≡ run.pair_once guest past p caller callee kind
   pair_is groups caller callee kind of_profile within from to apart =
-      pair_once guest.syms (events_counted past) numbers p of_trace caller callee kind within
+      pair_once guest.syms (events_with_costs past) numbers p of_trace caller callee kind within
       (λ same. apart ((of_profile.numbered.same caller callee from to).1 same))
       ∙ ap (once_pair (λ f. number_in guest p f == caller) (λ f. number_in guest p f == callee) kind)
       (sym (have_stacks guest can past makes))
@@ -112,13 +112,13 @@ module _ (guest : Guest) (can : CanRun guest) (past : List Taken) (makes : Makes
   -- totals and limits
 
   pub total_is : (kind : ℕ) → kind < length p.events
-      → total p kind ≡ sum_by (λ x. get_or x.cost kind 0) (events_seen past)
+      → total p kind ≡ sum_by (λ x. get_or x.cost kind 0) (events_with_stacks past)
   total_is kind within =
-      self_sum guest.syms (events_counted past) numbers p of_trace (λ f. true) kind within
+      self_sum guest.syms (events_with_costs past) numbers p of_trace (λ f. true) kind within
       ∙ ap (sum_by (λ x. get_or x.cost kind 0)) (sym (have_stacks guest can past makes))
 
   pub none_over : AreAllWithin p
   none_over position sum of =
-      let most = sum_most guest.syms (events_counted past) numbers p of_trace (sized_seen guest can past makes) position
+      let most = sum_most guest.syms (events_with_costs past) numbers p of_trace (sized_seen guest can past makes) position
       sum of in
       omega (arith, most)

@@ -1,11 +1,11 @@
 -- The rows by context of a run can be folded, and the plain rows are their sums.
 use Rattle.std.proofs.Common.{ℕ, List}
 use Rattle.std.specs.List.{AllByRecursion}
-use Rattle.shadow_stack.specs.Traces.{Seen}
-use Rattle.part_dump.specs.Steps.{Step, own_seen, IsPiece}
+use Rattle.shadow_stack.specs.Traces.{EventOnStack}
+use Rattle.part_dump.specs.Steps.{Step, events_on_stack_of, IsPiece}
 use Rattle.recorder.specs.Rows.{rows_of}
-use Rattle.profile_run.specs.Guest.{Guest, CanRun}
-use Rattle.profile_run.specs.Trace.{Makes, Taken, steps_of}
+use Rattle.profile_run.specs.Program.{Program, CanRun}
+use Rattle.profile_run.specs.Trace.{Makes, RunStep, steps_of}
 use Rattle.ctx_rows.specs.Folding.{AreSumsOf, HaveContexts, plain}
 use Rattle.ctx_rows.specs.Known.{AreKnown}
 use Rattle.ctx_rows.specs.Rows.{CtxListed, ctx_rows_of}
@@ -16,10 +16,10 @@ use Rattle.run_laws.proofs.PieceLemmas as piece_of_run
 use Rattle.run_laws.proofs.PieceLemmas.{HaveSums}
 use Rattle.run_laws.specs.Contexts.{MayBeFolded}
 
-module _ (guest : Guest) (past : List Taken) (callers thread : ℕ) (segment : List Step) (can : CanRun guest)
+module _ (guest : Program) (past : List RunStep) (callers thread : ℕ) (segment : List Step) (can : CanRun guest)
     (makes : Makes guest past) (piece : IsPiece (steps_of past) segment) where
-  abbrev events : List Seen
-  events = own_seen thread segment
+  abbrev events : List EventOnStack
+  events = events_on_stack_of thread segment
 
   abbrev by_context : CtxListed
   by_context = ctx_rows_of callers guest.syms events

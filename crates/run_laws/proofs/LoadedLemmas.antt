@@ -20,7 +20,7 @@ use Rattle.elf_read.specs.Standard.{addr_limit, header_len, lowest_addr, pt_inte
 use Rattle.elf_read.specs.declared.error.ElfError.{ElfError}
 use Rattle.elf_read.specs.declared.error.ElfError.TheVariants.{BadSegment, Interp, NoEntry}
 use Rattle.elf_read.specs.declared.program.Segment.{Segment}
-use Rattle.guest_load.specs.First.{first_state, thread_at}
+use Rattle.guest_load.specs.First.{guest_at_start, thread_at}
 use Rattle.guest_load.specs.Lawful.{IsLawful, IsThread}
 use Rattle.guest_load.specs.Segments.{break_of, highest_end}
 use Rattle.guest_load.specs.Stack.{stack_pointer}
@@ -137,7 +137,7 @@ one_rises : (n : ℕ) → IsStrictlyIncreasing (n ∷ [])
 one_rises n = search rules
 
 lawful_image : (image : Image) (args : List (List ℕ)) (input : List ℕ) → image.entry % 4 ≡ 0
-    → break_of image.segments ≤ 0x4000_0000 → IsLawful (first_state image args input)
+    → break_of image.segments ≤ 0x4000_0000 → IsLawful (guest_at_start image args input)
 lawful_image image args input aligned low = record {
   read_within = omega arith;
   made_few = omega arith;
@@ -152,7 +152,7 @@ lawful_image image args input aligned low = record {
 }
 
 pub loaded_lawful : (image : Image) (args : List (List ℕ)) (input : List ℕ) → refusal image.bytes ≡ None
-    → image ≡ image_of image.bytes → IsLawful (first_state image args input)
+    → image ≡ image_of image.bytes → IsLawful (guest_at_start image args input)
 loaded_lawful image args input accepted is =
     let ok = accepts image.bytes accepted in
     lawful_image image args input

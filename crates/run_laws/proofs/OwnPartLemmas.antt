@@ -30,9 +30,9 @@ use Rattle.profile_files.specs.Loads.{AreLoads, IsLoad}
 use Rattle.profile_files.specs.Reading.{IsReading, events_fault, events_of, format_fault, load_fault, reading_fault}
 use Rattle.profile_files.specs.declared.fault.ReadFault.{ReadFault}
 use Rattle.profile_files.specs.declared.fault.ReadFault.TheVariants.{LoadFault, OutOfMemory}
-use Rattle.profile_run.specs.Guest.{Guest, head_of_run, CanRun}
+use Rattle.profile_run.specs.Program.{Program, head_of_run, CanRun}
 use Rattle.recorder.specs.Rows.{rows_of}
-use Rattle.profile_run.specs.Trace.{Makes, Stop, Taken, steps_of}
+use Rattle.profile_run.specs.Trace.{Makes, Stop, RunStep, steps_of}
 use Rattle.reads_back.specs.Joined.{events_in, first_command, no_rows_of}
 use Rattle.reads_back.specs.Rows.{IsOfRows}
 use Rattle.reads_back.proofs.AllPartsLemmas.{IsPartText, all_joined, events_agree, each_text, joins_exist, read_on}
@@ -118,30 +118,30 @@ module _ (contents : Files) (before now : ℕ) where
 
   answer_found : (name text : List ℕ) (answer : Result (Vec ℕ Global) LoadError) → file contents name ≡ Some text
       → ToldLoad contents name (length text) before now answer → IsFound name text (load_of answer)
-  answer_found name text (Ok bytes) held told =
-      let same : bytes.items ≡ text = some_same bytes.items text (sym told.0 ∙ held) in
+  answer_found name text (Ok bytes) folder_holds told =
+      let same : bytes.items ≡ text = some_same bytes.items text (sym told.0 ∙ folder_holds) in
       inl (ap (λ (items : List ℕ). let l : Load = Ok items in l) same)
     where
       some_same : (a b : List ℕ) → Some a ≡ Some b → a ≡ b
       some_same a b e = cc
-  answer_found name text (Err load.Failed) held (inl none) = absurd (none_some (sym none ∙ held))
+  answer_found name text (Err load.Failed) folder_holds (inl none) = absurd (none_some (sym none ∙ folder_holds))
     where
       none_some : None ≡ Some text → ⊥
       none_some e = cc
-  answer_found name text (Err load.Failed) held (inr rose) = inr (inr (refl, rose))
-  answer_found name text (Err (load.TooLong len)) held told =
-      let same : told.0 ≡ text = some_same told.0 text (sym told.1 ∙ held) in
+  answer_found name text (Err load.Failed) folder_holds (inr rose) = inr (inr (refl, rose))
+  answer_found name text (Err (load.TooLong len)) folder_holds told =
+      let same : told.0 ≡ text = some_same told.0 text (sym told.1 ∙ folder_holds) in
       let long : length told.0 ≡ length text = ap length same in
       absurd (omega (arith, long, told.2, told.3))
     where
       some_same : (a b : List ℕ) → Some a ≡ Some b → a ≡ b
       some_same a b e = cc
-  answer_found name text (Err (load.OutOfMemory _)) held told = inr (inl refl)
+  answer_found name text (Err (load.OutOfMemory _)) folder_holds told = inr (inl refl)
 
   load_found : (name text : List ℕ) (found : Load) → file contents name ≡ Some text
       → IsLoad (Some contents) name (length text) before now found → IsFound name text found
-  load_found name text found held is =
-      subst (IsFound name text) (sym is.is) (answer_found name text is.answer held is.answers)
+  load_found name text found folder_holds is =
+      subst (IsFound name text) (sym is.is) (answer_found name text is.answer folder_holds is.answers)
 
   abbrev pub IsOwnStop : Option ReadFault → Type 0
   IsOwnStop None = Unit {0}
@@ -223,7 +223,7 @@ module _ (contents : Files) (before now : ℕ) where
 
 -- ---- the parts of a run
 
-module _ (guest : Guest) (can : CanRun guest) (trace : List Taken) (makes : Makes guest trace) (stop : Stop) where
+module _ (guest : Program) (can : CanRun guest) (trace : List RunStep) (makes : Makes guest trace) (stop : Stop) where
   abbrev head : PartHead
   head = head_of_run guest
 
@@ -232,12 +232,12 @@ module _ (guest : Guest) (can : CanRun guest) (trace : List Taken) (makes : Make
 
   pub names_differ : AreApart put
   names_differ =
-      files_apart (rows_of guest.syms) head guest.syms guest.options.base guest.options.asked (steps_of trace)
+      files_apart (rows_of guest.syms) head guest.syms guest.options.base guest.options.dump_points (steps_of trace)
       (All-weaker (λ (x : Step). thread_of x ≤ 65535) (λ (x : Step). thread_of x < 2 ^ 32)
       (λ x small. omega (arith, small)) (steps_of trace) (small_numbers guest can trace makes))
 
-  pub held : (old : Files) → All (IsHeld (with_files put old)) put
-  held old = All-from_recursion (IsHeld (with_files put old)) put (all_held put old names_differ)
+  pub folder_holds : (old : Files) → All (IsHeld (with_files put old)) put
+  folder_holds old = All-from_recursion (IsHeld (with_files put old)) put (all_held put old names_differ)
 
   pub joined_is : (p : Contents) → IsProfile p → Joins (no_rows_of head) (texts_of_files put) p
       → IsProfileOfRun guest trace p
@@ -294,7 +294,7 @@ module _ (guest : Guest) (can : CanRun guest) (trace : List Taken) (makes : Make
         (stop_is contents before now (reading_fault (events_in head) (with_their_lengths put) reading.loads)
         (stops_own contents before now head put reading.loads all_own reading.met))
 
-pub one_profile : (guest : Guest) (trace : List Taken) (p q : Contents) → IsProfileOfRun guest trace p
+pub one_profile : (guest : Program) (trace : List RunStep) (p q : Contents) → IsProfileOfRun guest trace p
     → IsProfileOfRun guest trace q → SaysTheSame p q
 one_profile guest trace p q is other =
     alike (head_of_run guest) (command_of_run guest trace) (rows_of_run guest trace) guest.syms p q is.rows other.rows

@@ -10,15 +10,15 @@ use Rattle.sym_map.specs.SymbolMap.{SymbolMap}
 use Rattle.sym_map.proofs.SymbolTables.{filter-map}
 use Rattle.shadow_stack.specs.Changes.{after}
 use Rattle.shadow_stack.specs.Stacks.{Stack}
-use Rattle.shadow_stack.specs.Traces.{Counted, Seen, first_pc, stack_after, stack_of}
-use Rattle.part_dump.specs.Steps.{Step, own, own_seen}
-use Rattle.recorder.specs.Standing.{last_seen, own_stack}
+use Rattle.shadow_stack.specs.Traces.{CountedEvent, EventOnStack, first_pc, stack_after, stack_of}
+use Rattle.part_dump.specs.Steps.{Step, steps_of_thread, events_on_stack_of}
+use Rattle.recorder.specs.Standing.{last_events_on_stack, stack_after_events}
 use Rattle.recorder.specs.Standing as recorder
 use Rattle.recorder.specs.Sums.{of_thread}
 use Rattle.recorder.proofs.LawLemmas.{alone, events_in, seen_alone}
-use Rattle.recorder.proofs.StandingLemmas.{own_seen-append}
-use Rattle.once_each.specs.Runs.{HaveStacks, counted_step, trace_of}
-use Rattle.run_laws.specs.Own.{first_stack, own_counted}
+use Rattle.recorder.proofs.StandingLemmas.{events_on_stack-append}
+use Rattle.once_each.specs.Runs.{HaveStacks, costed_step, trace_of}
+use Rattle.run_laws.specs.ThreadWork.{first_stack, own_costed_events}
 
 cancel_rest : {X : Type 0} (xs us ys vs : List X) → length xs ≡ length us → xs ++ ys ≡ us ++ vs → ys ≡ vs
 cancel_rest xs us ys vs same is =
@@ -42,105 +42,105 @@ module _ (syms : SymbolMap) where
       folded (d ∷ es) s = folded es (after syms s d)
 
   -- with the stacks folded one after another
-  alone_folded : (earlier xs : List Counted)
+  alone_folded : (earlier xs : List CountedEvent)
       → seen_alone syms earlier xs
-      ≡ recorder.own_seen syms (stack_of syms (events_in earlier) (first_pc (events_in xs) 0)) xs
+      ≡ recorder.events_on_stack syms (stack_of syms (events_in earlier) (first_pc (events_in xs) 0)) xs
   alone_folded earlier [] = refl
   alone_folded earlier (x ∷ xs) =
-      ap (λ (ys : List Seen). record {
+      ap (λ (ys : List EventOnStack). record {
         event = x.event;
         cost = x.cost;
         stack = stack_of syms (events_in earlier) x.event.done.pc;
       } ∷ ys)
       (alone_folded (earlier ++ x ∷ []) xs
-      ∙ ap (λ (s : Stack). recorder.own_seen syms s xs)
+      ∙ ap (λ (s : Stack). recorder.events_on_stack syms s xs)
       (ap (λ (es : List Event). stack_of syms es (first_pc (events_in xs) 0))
-      (map-append (λ (y : Counted). y.event) earlier (x ∷ []))
+      (map-append (λ (y : CountedEvent). y.event) earlier (x ∷ []))
       ∙ stack_more (events_in earlier) x.event (first_pc (events_in xs) 0)))
 
-  as_many : (s : Stack) (xs : List Counted) → length (recorder.own_seen syms s xs) ≡ length xs
+  as_many : (s : Stack) (xs : List CountedEvent) → length (recorder.events_on_stack syms s xs) ≡ length xs
   as_many s [] = refl
   as_many s (x ∷ xs) = ap (λ n. suc n) (as_many (after syms s x.event) xs)
 
   -- a thread's events, of all steps
   pub own_folded : (thread : ℕ) (steps : List Step) → HaveStacks syms steps
-      → own_seen thread steps ≡ recorder.own_seen syms (first_stack syms thread steps) (own_counted thread steps)
+      → events_on_stack_of thread steps ≡ recorder.events_on_stack syms (first_stack syms thread steps) (own_costed_events thread steps)
   own_folded thread steps have =
       let t : ThreadNo = record { 0 = thread } in
-      sym (filter-map (λ (x : Step). x.seen) (λ (y : Seen). y.event.thread.0 == thread) steps)
+      sym (filter-map (λ (x : Step). x.on_stack) (λ (y : EventOnStack). y.event.thread.0 == thread) steps)
       ∙ ap (of_thread t) have
       ∙ alone syms t (trace_of steps)
-      ∙ ap (seen_alone syms []) (filter-map counted_step (λ (y : Counted). y.event.thread.0 == thread) steps)
-      ∙ alone_folded [] (own_counted thread steps)
-      ∙ ap (λ (es : List Event). recorder.own_seen syms (stack_of syms [] (first_pc es 0)) (own_counted thread steps))
-      (events_counted (own thread steps))
+      ∙ ap (seen_alone syms []) (filter-map costed_step (λ (y : CountedEvent). y.event.thread.0 == thread) steps)
+      ∙ alone_folded [] (own_costed_events thread steps)
+      ∙ ap (λ (es : List Event). recorder.events_on_stack syms (stack_of syms [] (first_pc es 0)) (own_costed_events thread steps))
+      (events_counted (steps_of_thread thread steps))
     where
-      events_counted : (xs : List Step) → events_in (map counted_step xs) ≡ map (λ x. x.seen.event) xs
+      events_counted : (xs : List Step) → events_in (map costed_step xs) ≡ map (λ x. x.on_stack.event) xs
       events_counted [] = refl
-      events_counted (x ∷ xs) = ap (λ (es : List Event). x.seen.event ∷ es) (events_counted xs)
+      events_counted (x ∷ xs) = ap (λ (es : List Event). x.on_stack.event ∷ es) (events_counted xs)
 
   -- ---- pieces
 
   module _ (thread : ℕ) where
-    own_seen_append : (xs ys : List Step) → own_seen thread (xs ++ ys) ≡ own_seen thread xs ++ own_seen thread ys
+    own_seen_append : (xs ys : List Step) → events_on_stack_of thread (xs ++ ys) ≡ events_on_stack_of thread xs ++ events_on_stack_of thread ys
     own_seen_append xs ys =
-        ap (map (λ (x : Step). x.seen)) (filter-append (λ (x : Step). x.seen.event.thread.0 == thread) xs ys)
-        ∙ map-append (λ (x : Step). x.seen) (own thread xs) (own thread ys)
+        ap (map (λ (x : Step). x.on_stack)) (filter-append (λ (x : Step). x.on_stack.event.thread.0 == thread) xs ys)
+        ∙ map-append (λ (x : Step). x.on_stack) (steps_of_thread thread xs) (steps_of_thread thread ys)
 
     own_counted_append : (xs ys : List Step)
-        → own_counted thread (xs ++ ys) ≡ own_counted thread xs ++ own_counted thread ys
+        → own_costed_events thread (xs ++ ys) ≡ own_costed_events thread xs ++ own_costed_events thread ys
     own_counted_append xs ys =
-        ap (map counted_step) (filter-append (λ (x : Step). x.seen.event.thread.0 == thread) xs ys)
-        ∙ map-append counted_step (own thread xs) (own thread ys)
+        ap (map costed_step) (filter-append (λ (x : Step). x.on_stack.event.thread.0 == thread) xs ys)
+        ∙ map-append costed_step (steps_of_thread thread xs) (steps_of_thread thread ys)
 
     own_pieces : (pieces : List (List Step))
-        → own_counted thread (flat_map (λ piece. piece) pieces)
-        ≡ flat_map (λ piece. piece) (map (own_counted thread) pieces)
+        → own_costed_events thread (flat_map (λ piece. piece) pieces)
+        ≡ flat_map (λ piece. piece) (map (own_costed_events thread) pieces)
     own_pieces [] = refl
     own_pieces (piece ∷ pieces) =
         own_counted_append piece (flat_map (λ piece. piece) pieces)
-        ∙ ap (λ (xs : List Counted). own_counted thread piece ++ xs) (own_pieces pieces)
+        ∙ ap (λ (xs : List CountedEvent). own_costed_events thread piece ++ xs) (own_pieces pieces)
 
-    same_count : (xs : List Step) → length (own_seen thread xs) ≡ length (own_counted thread xs)
-    same_count xs = by (own thread xs)
+    same_count : (xs : List Step) → length (events_on_stack_of thread xs) ≡ length (own_costed_events thread xs)
+    same_count xs = by (steps_of_thread thread xs)
       where
-        by : (ys : List Step) → length (map (λ (x : Step). x.seen) ys) ≡ length (map counted_step ys)
+        by : (ys : List Step) → length (map (λ (x : Step). x.on_stack) ys) ≡ length (map costed_step ys)
         by [] = refl
         by (y ∷ ys) = ap (λ n. suc n) (by ys)
 
     pub own_last : (steps : List Step) (earlier : List (List Step)) (segment later : List Step) → HaveStacks syms steps
         → steps ≡ flat_map (λ piece. piece) earlier ++ (segment ++ later)
-        → own_seen thread segment
-        ≡ last_seen syms (first_stack syms thread steps) (map (own_counted thread) earlier) (own_counted thread segment)
+        → events_on_stack_of thread segment
+        ≡ last_events_on_stack syms (first_stack syms thread steps) (map (own_costed_events thread) earlier) (own_costed_events thread segment)
     own_last steps earlier segment later have cut =
         let first = first_stack syms thread steps in
         let before = flat_map (λ piece. piece) earlier in
-        let then = recorder.own_seen syms (own_stack syms first (own_counted thread before)) in
-        let whole : own_seen thread before ++ own_seen thread (segment ++ later)
-        ≡ recorder.own_seen syms first (own_counted thread before) ++ then (own_counted thread (segment ++ later))
-        = sym (own_seen_append before (segment ++ later)) ∙ ap (own_seen thread) (sym cut)
+        let then = recorder.events_on_stack syms (stack_after_events syms first (own_costed_events thread before)) in
+        let whole : events_on_stack_of thread before ++ events_on_stack_of thread (segment ++ later)
+        ≡ recorder.events_on_stack syms first (own_costed_events thread before) ++ then (own_costed_events thread (segment ++ later))
+        = sym (own_seen_append before (segment ++ later)) ∙ ap (events_on_stack_of thread) (sym cut)
         ∙ own_folded thread steps have
-        ∙ ap (λ (xs : List Step). recorder.own_seen syms first (own_counted thread xs)) cut
-        ∙ ap (recorder.own_seen syms first) (own_counted_append before (segment ++ later))
-        ∙ own_seen-append syms first (own_counted thread before) (own_counted thread (segment ++ later)) in
-        let rest : own_seen thread segment ++ own_seen thread later
-        ≡ then (own_counted thread segment)
-        ++ recorder.own_seen syms
-        (own_stack syms (own_stack syms first (own_counted thread before)) (own_counted thread segment))
-        (own_counted thread later)
+        ∙ ap (λ (xs : List Step). recorder.events_on_stack syms first (own_costed_events thread xs)) cut
+        ∙ ap (recorder.events_on_stack syms first) (own_counted_append before (segment ++ later))
+        ∙ events_on_stack-append syms first (own_costed_events thread before) (own_costed_events thread (segment ++ later)) in
+        let rest : events_on_stack_of thread segment ++ events_on_stack_of thread later
+        ≡ then (own_costed_events thread segment)
+        ++ recorder.events_on_stack syms
+        (stack_after_events syms (stack_after_events syms first (own_costed_events thread before)) (own_costed_events thread segment))
+        (own_costed_events thread later)
         = sym (own_seen_append segment later)
-        ∙ cancel_rest (own_seen thread before) (recorder.own_seen syms first (own_counted thread before))
-        (own_seen thread (segment ++ later)) (then (own_counted thread (segment ++ later)))
-        (same_count before ∙ sym (as_many first (own_counted thread before))) whole
+        ∙ cancel_rest (events_on_stack_of thread before) (recorder.events_on_stack syms first (own_costed_events thread before))
+        (events_on_stack_of thread (segment ++ later)) (then (own_costed_events thread (segment ++ later)))
+        (same_count before ∙ sym (as_many first (own_costed_events thread before))) whole
         ∙ ap then (own_counted_append segment later)
-        ∙ own_seen-append syms (own_stack syms first (own_counted thread before)) (own_counted thread segment)
-        (own_counted thread later) in
-        cancel_front (own_seen thread segment) (then (own_counted thread segment)) (own_seen thread later)
-        (recorder.own_seen syms
-        (own_stack syms (own_stack syms first (own_counted thread before)) (own_counted thread segment))
-        (own_counted thread later))
+        ∙ events_on_stack-append syms (stack_after_events syms first (own_costed_events thread before)) (own_costed_events thread segment)
+        (own_costed_events thread later) in
+        cancel_front (events_on_stack_of thread segment) (then (own_costed_events thread segment)) (events_on_stack_of thread later)
+        (recorder.events_on_stack syms
+        (stack_after_events syms (stack_after_events syms first (own_costed_events thread before)) (own_costed_events thread segment))
+        (own_costed_events thread later))
         (same_count segment
-        ∙ sym (as_many (own_stack syms first (own_counted thread before)) (own_counted thread segment)))
+        ∙ sym (as_many (stack_after_events syms first (own_costed_events thread before)) (own_costed_events thread segment)))
         rest
-        ∙ ap (λ (xs : List Counted). recorder.own_seen syms (own_stack syms first xs) (own_counted thread segment))
+        ∙ ap (λ (xs : List CountedEvent). recorder.events_on_stack syms (stack_after_events syms first xs) (own_costed_events thread segment))
         (own_pieces earlier)

@@ -11,21 +11,21 @@ use Rattle.cg_format.specs.declared.trigger.Trigger.{Trigger}
 use Rattle.cg_format.specs.declared.trigger.Trigger.TheVariants.{Termination}
 use Rattle.sym_map.specs.SymbolMap.{SymbolMap}
 use Rattle.sym_map.proofs.Members.{Contains-cons, Contains-first, Contains-from_map, Contains-map, first_or_rest}
-use Rattle.shadow_stack.specs.Traces.{Seen, seen}
+use Rattle.shadow_stack.specs.Traces.{EventOnStack, events_on_stacks}
 use Rattle.arc_costs.specs.Contents.{Listed}
 use Rattle.cg_format.specs.Part.{part_text}
 use Rattle.cg_format.specs.declared.head.PartHead.{PartHead}
 use Rattle.part_dump.specs.Cuts.{cuts}
-use Rattle.part_dump.specs.Steps.{Step, own_seen, thread_of, threads}
+use Rattle.part_dump.specs.Steps.{Step, events_on_stack_of, thread_of, threads}
 use Rattle.part_dump.specs.Steps as steps
 use Rattle.part_dump.proofs.CutLemmas.{cuts_together}
-use Rattle.profile_run.specs.Guest.{Guest, head_of_run, CanRun}
+use Rattle.profile_run.specs.Program.{Program, head_of_run, CanRun}
 use Rattle.recorder.specs.Rows.{rows_of}
-use Rattle.profile_run.specs.Trace.{Makes, Stop, Taken, steps_of}
+use Rattle.profile_run.specs.Trace.{Makes, Stop, RunStep, steps_of}
 use Rattle.recorder.proofs.RowSumLemmas.{all_sum_up, whole_arcs, whole_lines}
 use Rattle.once_each.specs.Orderly.{IsRunSized, IsSmall}
 use Rattle.once_each.specs.Parts.{ArePartsOfTrace, ThreadRows, is_by}
-use Rattle.once_each.specs.Runs.{AreOrderlyAfter, seen_of}
+use Rattle.once_each.specs.Runs.{AreOrderlyAfter, stacked_events}
 use Rattle.once_each.specs.Written.{SumsUp, file_of, segment_parts, segments_of, thread_part}
 use Rattle.once_each.proofs.MemberLemmas.{All-members, Contains-flat_map, each_at, each_from, from_filter, from_flat_map}
 use Rattle.once_each.proofs.WrittenLemmas.{run_files, run_parts, segment_exact}
@@ -34,7 +34,7 @@ use Rattle.reads_back.specs.Joined.{texts_of}
 use Rattle.reads_back.specs.Rows.{AreWritable, command_of}
 use Rattle.reads_back.proofs.WritableLemmas.{writable_rows}
 use Rattle.run_laws.specs.OwnParts.{files_of_run, texts_of_files}
-use Rattle.run_laws.specs.Runs.{command_of_run, events_counted, part_of, parts_written, rows_of_run, segment_written}
+use Rattle.run_laws.specs.Runs.{command_of_run, events_with_costs, part_of, parts_written, rows_of_run, segment_written}
 use Rattle.run_laws.specs.Runs.{thread_rows}
 use Rattle.run_laws.proofs.EventLemmas.{have_stacks, orderly, sized}
 
@@ -43,11 +43,11 @@ Segment = List Step × Trigger
 
 -- ---- texts and rows
 
-module _ (guest : Guest) where
+module _ (guest : Program) where
   abbrev head : PartHead
   head = head_of_run guest
 
-  abbrev rows : List Seen → Listed
+  abbrev rows : List EventOnStack → Listed
   rows = rows_of guest.syms
 
   abbrev base : List ℕ
@@ -77,11 +77,11 @@ module _ (guest : Guest) where
       ∙ (λ i. one_texts s.0 s.1.1 (segment_parts rows s.1.0) i ++ all_texts more i)
       ∙ sym (map-append text written later)
 
-  pub texts_same : (trace : List Taken) (stop : Stop)
+  pub texts_same : (trace : List RunStep) (stop : Stop)
       → texts_of_files (files_of_run guest trace stop) ≡ texts_of guest.syms (parts_written guest trace)
   texts_same trace stop =
-      ap texts_of_files (run_files rows head guest.syms base guest.options.asked (steps_of trace))
-      ∙ all_texts (enumerate_from 1 (segments_of guest.syms guest.options.asked (steps_of trace)))
+      ap texts_of_files (run_files rows head guest.syms base guest.options.dump_points (steps_of trace))
+      ∙ all_texts (enumerate_from 1 (segments_of guest.syms guest.options.dump_points (steps_of trace)))
 
   -- the rows of the parts are those of the threads in the segments
   module _ {R : Type 0} (of : Listed → List R) where
@@ -103,9 +103,9 @@ module _ (guest : Guest) where
         flat_map-append (λ (p : WrittenPart). of p.rows) written later
         ∙ (λ i. one_rows number s.1 (segment_parts rows s.0) i ++ every_row (number + 1) segments i)
 
-  pub rows_same : (trace : List Taken) → rows_of_all (parts_written guest trace) ≡ rows_of_run guest trace
+  pub rows_same : (trace : List RunStep) → rows_of_all (parts_written guest trace) ≡ rows_of_run guest trace
   rows_same trace =
-      let segments = segments_of guest.syms guest.options.asked (steps_of trace) in
+      let segments = segments_of guest.syms guest.options.dump_points (steps_of trace) in
       λ i. record {
         lines = every_row (λ listed. listed.lines) 1 segments i;
         arcs = every_row (λ listed. listed.arcs) 1 segments i;
@@ -113,18 +113,18 @@ module _ (guest : Guest) where
 
 -- ---- the events of a thread in a segment
 
-own_among : (thread : ℕ) (segment : List Step) (x : Seen) → Contains (own_seen thread segment) x
-    → Contains (seen_of segment) x
+own_among : (thread : ℕ) (segment : List Step) (x : EventOnStack) → Contains (events_on_stack_of thread segment) x
+    → Contains (stacked_events segment) x
 own_among thread segment x is =
-    let from = Contains-from_map (λ (y : Step). y.seen) (steps.own thread segment) x is in
+    let from = Contains-from_map (λ (y : Step). y.on_stack) (steps.steps_of_thread thread segment) x is in
     let step = from_filter (λ (y : Step). thread_of y == thread) segment from.0 from.1 in
-    subst (Contains (seen_of segment)) from.2 (Contains-map (λ (y : Step). y.seen) segment from.0 step.0)
+    subst (Contains (stacked_events segment)) from.2 (Contains-map (λ (y : Step). y.on_stack) segment from.0 step.0)
 
-fewer_own : (thread : ℕ) (segment : List Step) → length (own_seen thread segment) ≤ length segment
+fewer_own : (thread : ℕ) (segment : List Step) → length (events_on_stack_of thread segment) ≤ length segment
 fewer_own thread segment =
     omega (
       arith,
-      length-map (steps.own thread segment) (λ (y : Step). y.seen),
+      length-map (steps.steps_of_thread thread segment) (λ (y : Step). y.on_stack),
       fewer (λ (y : Step). thread_of y == thread) segment,
     )
   where
@@ -149,92 +149,92 @@ shorter_segment (t ∷ segments) s is =
 -- ---- the parts of a run can be written
 
 each_whole : (syms : SymbolMap) (earlier xs : List Step) → AreOrderlyAfter syms earlier xs
-    → AllByRecursion (λ (x : Seen). IsWhole x.cost) (seen_of xs)
+    → AllByRecursion (λ (x : EventOnStack). IsWhole x.cost) (stacked_events xs)
 each_whole syms earlier [] each = tt
 each_whole syms earlier (x ∷ xs) each = (each.0.whole, each_whole syms (earlier ++ x ∷ []) xs each.1)
 
-seen_pieces : (segments : List Segment)
-    → flat_map (λ (s : Segment). seen_of s.0) segments ≡ seen_of (flat_map (λ (s : Segment). s.0) segments)
-seen_pieces [] = refl
-seen_pieces (s ∷ segments) =
-    ap (λ (l : List Seen). seen_of s.0 ++ l) (seen_pieces segments)
-    ∙ sym (map-append (λ (x : Step). x.seen) s.0 (flat_map (λ (s : Segment). s.0) segments))
+stacked_pieces : (segments : List Segment)
+    → flat_map (λ (s : Segment). stacked_events s.0) segments ≡ stacked_events (flat_map (λ (s : Segment). s.0) segments)
+stacked_pieces [] = refl
+stacked_pieces (s ∷ segments) =
+    ap (λ (l : List EventOnStack). stacked_events s.0 ++ l) (stacked_pieces segments)
+    ∙ sym (map-append (λ (x : Step). x.on_stack) s.0 (flat_map (λ (s : Segment). s.0) segments))
 
-module _ (guest : Guest) (can : CanRun guest) (past : List Taken) (makes : Makes guest past) where
+module _ (guest : Program) (can : CanRun guest) (past : List RunStep) (makes : Makes guest past) where
   abbrev syms : SymbolMap
   syms = guest.syms
 
   abbrev run : List Step
   run = steps_of past
 
-  abbrev all : List Seen
-  all = seen syms (events_counted past)
+  abbrev all : List EventOnStack
+  all = events_on_stacks syms (events_with_costs past)
 
   abbrev segments : List Segment
-  segments = segments_of syms guest.options.asked run
+  segments = segments_of syms guest.options.dump_points run
 
   together : flat_map (λ (s : Segment). s.0) segments ≡ run
   together =
-      let closed = (cuts syms guest.options.asked run).closed in
-      let recent = (cuts syms guest.options.asked run).recent in
+      let closed = (cuts syms guest.options.dump_points run).closed in
+      let recent = (cuts syms guest.options.dump_points run).recent in
       flat_map-append (λ (s : Segment). s.0) closed ((recent, Termination) ∷ [])
       ∙ ap (λ (l : List Step). flat_map (λ (s : Segment). s.0) closed ++ l) (append-nil recent)
-      ∙ cuts_together syms guest.options.asked run
+      ∙ cuts_together syms guest.options.dump_points run
 
-  in_run : (s : Segment) → Contains segments s → (x : Seen) → Contains (seen_of s.0) x → Contains all x
+  in_run : (s : Segment) → Contains segments s → (x : EventOnStack) → Contains (stacked_events s.0) x → Contains all x
   in_run s is x here =
-      subst (λ (l : List Seen). Contains l x) (seen_pieces segments ∙ ap seen_of together
+      subst (λ (l : List EventOnStack). Contains l x) (stacked_pieces segments ∙ ap stacked_events together
       ∙ have_stacks guest can past makes)
-      (Contains-flat_map (λ (t : Segment). seen_of t.0) segments s x is here)
+      (Contains-flat_map (λ (t : Segment). stacked_events t.0) segments s x is here)
 
-  whole_cost : (x : Seen) → Contains all x → IsWhole x.cost
+  whole_cost : (x : EventOnStack) → Contains all x → IsWhole x.cost
   whole_cost x is =
-      each_at (λ (y : Seen). IsWhole y.cost) (seen_of run) (each_whole syms [] run (orderly guest can past makes)) x
-      (subst (λ (l : List Seen). Contains l x) (sym (have_stacks guest can past makes)) is)
+      each_at (λ (y : EventOnStack). IsWhole y.cost) (stacked_events run) (each_whole syms [] run (orderly guest can past makes)) x
+      (subst (λ (l : List EventOnStack). Contains l x) (sym (have_stacks guest can past makes)) is)
 
   pub sums_up : SumsUp syms (rows_of syms) all
   sums_up xs among =
-      all_sum_up syms xs (All-weaker (Contains all) (λ (x : Seen). IsWhole x.cost) whole_cost xs among)
+      all_sum_up syms xs (All-weaker (Contains all) (λ (x : EventOnStack). IsWhole x.cost) whole_cost xs among)
 
-  pub parts_of_trace : ArePartsOfTrace syms (events_counted past) (thread_rows guest past)
+  pub parts_of_trace : ArePartsOfTrace syms (events_with_costs past) (thread_rows guest past)
   parts_of_trace =
-      run_parts syms guest.options.asked run (rows_of syms) (have_stacks guest can past makes) sums_up
+      run_parts syms guest.options.dump_points run (rows_of syms) (have_stacks guest can past makes) sums_up
 
   -- a thread's events in a segment
   module _ (s : Segment) (is : Contains segments s) (thread : ℕ) where
-    among : All (Contains all) (own_seen thread s.0)
-    among = All-members (own_seen thread s.0) all (λ x here. in_run s is x (own_among thread s.0 x here))
+    among : All (Contains all) (events_on_stack_of thread s.0)
+    among = All-members (events_on_stack_of thread s.0) all (λ x here. in_run s is x (own_among thread s.0 x here))
 
-    own_sized : IsRunSized (own_seen thread s.0)
+    own_sized : IsRunSized (events_on_stack_of thread s.0)
     own_sized =
         let big = sized guest can past makes in
-        let many : length run ≡ length (seen_of run) = sym (length-map run (λ (y : Step). y.seen)) in
+        let many : length run ≡ length (stacked_events run) = sym (length-map run (λ (y : Step). y.on_stack)) in
         let short = shorter_segment segments s is in
         let same : length (flat_map (λ (t : Segment). t.0) segments) ≡ length run = ap length together in
         record {
           events = omega (arith, fewer_own thread s.0, short, same, many, big.events);
-          small = All-weaker (Contains all) IsSmall (λ x here. All-contains IsSmall (seen_of run) x big.small
-              (subst (λ (l : List Seen). Contains l x) (sym (have_stacks guest can past makes)) here))
-              (own_seen thread s.0) among;
+          small = All-weaker (Contains all) IsSmall (λ x here. All-contains IsSmall (stacked_events run) x big.small
+              (subst (λ (l : List EventOnStack). Contains l x) (sym (have_stacks guest can past makes)) here))
+              (events_on_stack_of thread s.0) among;
         }
 
-    own_writable : AreWritable syms (rows_of syms (own_seen thread s.0))
+    own_writable : AreWritable syms (rows_of syms (events_on_stack_of thread s.0))
     own_writable =
-        writable_rows syms can.sound (events_counted past) (own_seen thread s.0)
-        (rows_of syms (own_seen thread s.0)) among own_sized (sums_up (own_seen thread s.0) among)
+        writable_rows syms can.sound (events_with_costs past) (events_on_stack_of thread s.0)
+        (rows_of syms (events_on_stack_of thread s.0)) among own_sized (sums_up (events_on_stack_of thread s.0) among)
         (record {
-          lines = whole_lines syms (own_seen thread s.0);
-          arcs = whole_arcs syms (own_seen thread s.0);
+          lines = whole_lines syms (events_on_stack_of thread s.0);
+          arcs = whole_arcs syms (events_on_stack_of thread s.0);
         })
 
-    part_writable : (xs : List Seen) → own_seen thread s.0 ≡ xs → (part : ThreadRows)
+    part_writable : (xs : List EventOnStack) → events_on_stack_of thread s.0 ≡ xs → (part : ThreadRows)
         → Contains (thread_part (rows_of syms) thread xs) part → AreWritable syms part.rows
     part_writable [] own part here = absurd (omega (arith, here.1))
     part_writable (x ∷ xs) own part here =
         let made : ThreadRows = record { thread = record { 0 = thread }; rows = rows_of syms (x ∷ xs) } in
         ⊎_elim (λ (same : made ≡ part).
         subst (λ (p : ThreadRows). AreWritable syms p.rows) same
-        (subst (λ (ys : List Seen). AreWritable syms (rows_of syms ys)) own own_writable))
+        (subst (λ (ys : List EventOnStack). AreWritable syms (rows_of syms ys)) own own_writable))
         (λ later. absurd (omega (arith, later.1))) (first_or_rest made [] part here)
 
   segment_writable : (s : Segment) → Contains segments s
@@ -242,8 +242,8 @@ module _ (guest : Guest) (can : CanRun guest) (past : List Taken) (makes : Makes
   segment_writable s is =
       each_from (λ (p : ThreadRows). AreWritable syms p.rows) (segment_parts (rows_of syms) s.0)
       (λ part here.
-      let from = from_flat_map (λ t. thread_part (rows_of syms) t (own_seen t s.0)) (threads s.0) part here in
-      part_writable s is from.item (own_seen from.item s.0) refl part from.has)
+      let from = from_flat_map (λ t. thread_part (rows_of syms) t (events_on_stack_of t s.0)) (threads s.0) part here in
+      part_writable s is from.item (events_on_stack_of from.item s.0) refl part from.has)
 
   abbrev IsFine : WrittenPart → Type 0
   IsFine part = AreOfOneRun (head_of_run guest) part.head × AreWritable syms part.rows
@@ -280,14 +280,14 @@ module _ (guest : Guest) (can : CanRun guest) (past : List Taken) (makes : Makes
       → 0 < length (segment_parts (rows_of syms) s.0)
   some_part s is y ys steps =
       let exact = segment_exact (rows_of syms) syms s.0
-      (λ xs here. sums_up xs (All-weaker (Contains (seen_of s.0)) (Contains all) (in_run s is) xs here)) in
-      let there : Contains (seen_of s.0) y.seen
-      = subst (λ (l : List Step). Contains (seen_of l) y.seen) (sym steps) (Contains-first y.seen (seen_of ys)) in
+      (λ xs here. sums_up xs (All-weaker (Contains (stacked_events s.0)) (Contains all) (in_run s is) xs here)) in
+      let there : Contains (stacked_events s.0) y.on_stack
+      = subst (λ (l : List Step). Contains (stacked_events l) y.on_stack) (sym steps) (Contains-first y.on_stack (stacked_events ys)) in
       by (segment_parts (rows_of syms) s.0)
-      (All-contains (λ x. count_by (is_by x) (segment_parts (rows_of syms) s.0) ≡ 1) (seen_of s.0) y.seen exact.whole
+      (All-contains (λ x. count_by (is_by x) (segment_parts (rows_of syms) s.0) ≡ 1) (stacked_events s.0) y.on_stack exact.whole
       there)
     where
-      by : (parts : List ThreadRows) → count_by (is_by y.seen) parts ≡ 1 → 0 < length parts
+      by : (parts : List ThreadRows) → count_by (is_by y.on_stack) parts ≡ 1 → 0 < length parts
       by [] one = absurd (omega (arith, one))
       by (p ∷ ps) one = omega arith
 
@@ -309,7 +309,7 @@ module _ (guest : Guest) (can : CanRun guest) (past : List Taken) (makes : Makes
       by [] some = absurd (omega (arith, some))
       by (p ∷ ps) some = refl
 
-pub command_is : (guest : Guest) (can : CanRun guest) (past : List Taken) (makes : Makes guest past)
+pub command_is : (guest : Program) (can : CanRun guest) (past : List RunStep) (makes : Makes guest past)
     → first_command (parts_written guest past) ≡ command_of_run guest past
 unfolding cuts
 command_is guest can [] makes = refl

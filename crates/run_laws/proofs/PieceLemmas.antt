@@ -9,16 +9,16 @@ use Rattle.arc_costs.specs.Arcs.{arc_sum, call_sum}
 use Rattle.arc_costs.specs.Contents.{Listed}
 use Rattle.arc_costs.specs.Lines.{line_sum}
 use Rattle.sym_map.specs.SymbolMap.{SymbolMap}
-use Rattle.shadow_stack.specs.Traces.{Seen}
-use Rattle.part_dump.specs.Steps.{Step, own, own_seen, thread_of, IsPiece}
+use Rattle.shadow_stack.specs.Traces.{EventOnStack}
+use Rattle.part_dump.specs.Steps.{Step, steps_of_thread, events_on_stack_of, thread_of, IsPiece}
 use Rattle.recorder.specs.Laws.{IsIn}
 use Rattle.recorder.specs.Sums.{arc_calls, arc_cost, self_cost}
 use Rattle.recorder.specs.Rows.{rows_of}
 use Rattle.recorder.specs.Standing.{AreRowsOf}
 use Rattle.recorder.proofs.ListLemmas.{in_left, in_right, all_of, of_all, from_map, in_filter}
 use Rattle.recorder.proofs.RowSumLemmas.{all_sum_up, whole_arcs, whole_lines}
-use Rattle.profile_run.specs.Guest.{Guest, CanRun}
-use Rattle.profile_run.specs.Trace.{Makes, Taken, steps_of}
+use Rattle.profile_run.specs.Program.{Program, CanRun}
+use Rattle.profile_run.specs.Trace.{Makes, RunStep, steps_of}
 use Rattle.profile_run.proofs.MachineLemmas.{of_machine}
 use Rattle.profile_run.proofs.SizeLemmas.{IsSmall, are_few, are_small, arc_fits, calls_fit, fewer, self_fits}
 use Rattle.ctx_rows.specs.Folding.{AreSumsOf}
@@ -27,15 +27,15 @@ use Rattle.ctx_rows.proofs.HoldsLemmas.{IsReached}
 use Rattle.run_laws.proofs.AnswerLemmas.{all_on, each_reached, order_of}
 
 -- rows have the sums of these events, each place and arc any number of times
-pub record HaveSums (syms : SymbolMap) (xs : List Seen) (all : Listed) : Type 0 where
+pub record HaveSums (syms : SymbolMap) (xs : List EventOnStack) (all : Listed) : Type 0 where
   pub lines : (kind : ℕ) (place : Place) → line_sum kind place all.lines ≡ self_cost syms kind place xs
   pub arcs : (kind : ℕ) (arc : ArcKey) → arc_sum kind arc all.arcs ≡ arc_cost kind arc xs
   pub calls : (arc : ArcKey) → call_sum arc all.arcs ≡ arc_calls syms arc xs
 
-module _ (guest : Guest) (past : List Taken) (thread : ℕ) (segment : List Step) (can : CanRun guest)
+module _ (guest : Program) (past : List RunStep) (thread : ℕ) (segment : List Step) (can : CanRun guest)
     (makes : Makes guest past) (piece : IsPiece (steps_of past) segment) where
-  abbrev events : List Seen
-  events = own_seen thread segment
+  abbrev events : List EventOnStack
+  events = events_on_stack_of thread segment
 
   inside : (y : Step) → IsIn segment y → IsIn (steps_of past) y
   inside y there =
@@ -43,9 +43,9 @@ module _ (guest : Guest) (past : List Taken) (thread : ℕ) (segment : List Step
       (in_right piece.before (segment ++ piece.after) y (in_left segment piece.after y there))
 
   -- what holds of each step of the run holds of the thread's events among these
-  pub each : (P : Seen → Type 0) → ((y : Step) → IsIn (steps_of past) y → P y.seen) → (x : Seen) → IsIn events x → P x
+  pub each : (P : EventOnStack → Type 0) → ((y : Step) → IsIn (steps_of past) y → P y.on_stack) → (x : EventOnStack) → IsIn events x → P x
   each P of_step x there =
-      let y = from_map (λ (z : Step). z.seen) (own thread segment) x there in
+      let y = from_map (λ (z : Step). z.on_stack) (steps_of_thread thread segment) x there in
       let in_segment = (in_filter (λ (z : Step). thread_of z == thread) segment y.0 y.1).0 in
       subst P y.2 (of_step y.0 (inside y.0 in_segment))
 
@@ -53,7 +53,7 @@ module _ (guest : Guest) (past : List Taken) (thread : ℕ) (segment : List Step
   on =
       all_of (StandsOn guest.syms) events
       (each (StandsOn guest.syms)
-      (of_all (λ (z : Step). StandsOn guest.syms z.seen) (steps_of past)
+      (of_all (λ (z : Step). StandsOn guest.syms z.on_stack) (steps_of past)
       (all_on guest can (steps_of past) (order_of guest can past makes))))
 
   pub reached : AllByRecursion (IsReached guest.syms) events
@@ -62,7 +62,7 @@ module _ (guest : Guest) (past : List Taken) (thread : ℕ) (segment : List Step
       (each (IsReached guest.syms)
       (each_reached guest.syms [] (steps_of past) (order_of guest can past makes)))
 
-  small : (x : Seen) → IsIn events x → IsSmall x
+  small : (x : EventOnStack) → IsIn events x → IsSmall x
   small =
       let run = of_machine guest past makes in
       each IsSmall (are_small guest [] run.tolds past run.are)
@@ -71,8 +71,8 @@ module _ (guest : Guest) (past : List Taken) (thread : ℕ) (segment : List Step
   few =
       let run = of_machine guest past makes in
       let own_few = fewer (λ x. thread_of x == thread) segment in
-      let seen = length-map (own thread segment) (λ (x : Step). x.seen) in
-      let all = length-map past (λ (x : Taken). x.step) in
+      let seen = length-map (steps_of_thread thread segment) (λ (x : Step). x.on_stack) in
+      let all = length-map past (λ (x : RunStep). x.step) in
       let within = are_few guest [] run.tolds past (omega arith) run.are in
       let front = length-append piece.before (segment ++ piece.after) in
       let rest = length-append segment piece.after in
@@ -83,8 +83,8 @@ module _ (guest : Guest) (past : List Taken) (thread : ℕ) (segment : List Step
   pub are_rows : AreRowsOf guest.syms events (rows_of guest.syms events)
   are_rows =
       all_sum_up guest.syms events
-      (All-from_recursion (λ (x : Seen). IsWhole x.cost) events
-      (all_of (λ (x : Seen). IsWhole x.cost) events
+      (All-from_recursion (λ (x : EventOnStack). IsWhole x.cost) events
+      (all_of (λ (x : EventOnStack). IsWhole x.cost) events
       (λ x there. (of_all (StandsOn guest.syms) events on x there).whole)))
 
   pub lines_whole : All (λ row. IsWhole row.cost) (rows_of guest.syms events).lines

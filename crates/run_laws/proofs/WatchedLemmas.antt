@@ -9,14 +9,14 @@ use Rattle.cg_format.specs.declared.trigger.Trigger.{Trigger}
 use Rattle.cg_format.specs.declared.trigger.Trigger.TheVariants.{Termination}
 use Rattle.arc_costs.specs.Contents.{Listed}
 use Rattle.sym_map.specs.SymbolMap.{SymbolMap}
-use Rattle.shadow_stack.specs.Traces.{Seen}
+use Rattle.shadow_stack.specs.Traces.{EventOnStack}
 use Rattle.cg_format.specs.Part.{AreKnown}
 use Rattle.cg_format.specs.declared.head.PartHead.{PartHead}
 use Rattle.part_dump.specs.Calls.{Call, Readies, Sees, Writes, calls, closed_calls, head_of, part_calls, segment_calls}
 use Rattle.part_dump.specs.Calls.{steps_calls, thread_calls, tried_calls}
-use Rattle.part_dump.specs.Cuts.{Asked, cuts}
-use Rattle.part_dump.specs.Steps.{Step, event_of, own, own_seen, thread_of, threads}
-use Rattle.part_dump.specs.Watched.{FitAll, IsOrderly, Watched, readied, steps_in}
+use Rattle.part_dump.specs.Cuts.{DumpPoints, cuts}
+use Rattle.part_dump.specs.Steps.{Step, event_of, steps_of_thread, events_on_stack_of, thread_of, threads}
+use Rattle.part_dump.specs.Watched.{FitAll, IsOrderly, AreWatched, ready_pc, steps_in}
 use Rattle.part_dump.proofs.CutLemmas.{cuts_together}
 use Rattle.part_dump.proofs.StepLemmas.{own-append, own-other, own-push}
 use Rattle.part_dump.proofs.WatchLemmas.{last-push}
@@ -45,15 +45,15 @@ orderly_split syms earlier (x ∷ xs) ys all =
 
 -- A thread without a step was never ready.
 abbrev Quiet : List Call → Type 0
-Quiet earlier = (thread : ℕ) → own thread (steps_in earlier) ≡ [] → readied thread earlier ≡ None
+Quiet earlier = (thread : ℕ) → steps_of_thread thread (steps_in earlier) ≡ [] → ready_pc thread earlier ≡ None
 
 -- the calls end in these steps, before which there are others
 record Stands (earlier : List Call) (past : List Step) : Type 0 where
   steps : steps_in earlier ≡ past
   quiet : Quiet earlier
 
-some_own : (thread : ℕ) (past : List Step) (x : Step) → thread_of x ≡ thread → own thread (past ++ x ∷ []) ≡ [] → ⊥
-some_own thread past x is none = by (own thread past) (sym (own-push thread past x is) ∙ none)
+some_own : (thread : ℕ) (past : List Step) (x : Step) → thread_of x ≡ thread → steps_of_thread thread (past ++ x ∷ []) ≡ [] → ⊥
+some_own thread past x is none = by (steps_of_thread thread past) (sym (own-push thread past x is) ∙ none)
   where
     by : (ys : List Step) → ys ++ x ∷ [] ≡ [] → ⊥
     by [] same = cc
@@ -75,19 +75,19 @@ module _ (syms : SymbolMap) where
       ∙ stands.steps) in
       record {
         steps = same;
-        quiet = λ thread none. by thread (sym (ap (own thread) same) ∙ none) (eqb_tells (thread_of x) thread);
+        quiet = λ thread none. by thread (sym (ap (steps_of_thread thread) same) ∙ none) (eqb_tells (thread_of x) thread);
       }
     where
-      by : (thread : ℕ) → own thread (past ++ x ∷ []) ≡ []
+      by : (thread : ℕ) → steps_of_thread thread (past ++ x ∷ []) ≡ []
           → ((thread_of x == thread ≡ true) × (thread_of x ≡ thread))
-          ⊎ ((thread_of x == thread ≡ false) × (thread_of x ≢ thread)) → readied thread (with_step earlier x) ≡ None
+          ⊎ ((thread_of x == thread ≡ false) × (thread_of x ≢ thread)) → ready_pc thread (with_step earlier x) ≡ None
       by thread none (inl is) = absurd (some_own thread past x is.1 none)
       by thread none (inr other) =
           readied_more thread (earlier ++ Readies (event_of x).thread (event_of x).done.pc ∷ []) (Sees x)
           ∙ readied_more thread earlier (Readies (event_of x).thread (event_of x).done.pc)
-          ∙ if_other (thread_of x) thread (Some (event_of x).done.pc) (readied thread earlier) other.1
+          ∙ if_other (thread_of x) thread (Some (event_of x).done.pc) (ready_pc thread earlier) other.1
           ∙ stands.quiet thread
-          (ap (own thread) stands.steps ∙ sym (own-other thread past x other.1) ∙ none)
+          (ap (steps_of_thread thread) stands.steps ∙ sym (own-other thread past x other.1) ∙ none)
 
   steps_fit : (xs : List Step) (earlier : List Call) (past : List Step) → Stands earlier past
       → AreOrderlyAfter syms past xs → FitAll syms earlier (steps_calls xs)
@@ -123,9 +123,9 @@ module _ (syms : SymbolMap) where
 
   -- ---- parts
 
-  module _ (rows_of : List Seen → Listed) (head : PartHead) (all : List Step)
+  module _ (rows_of : List EventOnStack → Listed) (head : PartHead) (all : List Step)
       (known : (thread : ℕ) (before segment after : List Step) → before ++ (segment ++ after) ≡ all
-      → AreKnown syms (rows_of (own_seen thread segment))) where
+      → AreKnown syms (rows_of (events_on_stack_of thread segment))) where
     part_stands : (earlier : List Call) (past : List Step) (h : PartHead) (rows : Listed) → Stands earlier past
         → Stands (earlier ++ Writes h rows ∷ []) past
     part_stands earlier past h rows stands =
@@ -133,27 +133,27 @@ module _ (syms : SymbolMap) where
         record {
           steps = same ∙ stands.steps;
           quiet = λ thread none. readied_more thread earlier (Writes h rows)
-              ∙ stands.quiet thread (sym (ap (own thread) same) ∙ none);
+              ∙ stands.quiet thread (sym (ap (steps_of_thread thread) same) ∙ none);
         }
 
     module _ (part : ℕ) (trigger : Trigger) (before segment after : List Step)
         (whole : before ++ (segment ++ after) ≡ all) where
       abbrev of_thread : ℕ → List Call
-      of_thread thread = thread_calls rows_of head part trigger thread (own_seen thread segment)
+      of_thread thread = thread_calls rows_of head part trigger thread (events_on_stack_of thread segment)
 
-      own_there : (thread : ℕ) (ys : List Seen) (y : Seen) → own_seen thread segment ≡ y ∷ ys
-          → 0 < length (own thread (before ++ segment))
+      own_there : (thread : ℕ) (ys : List EventOnStack) (y : EventOnStack) → events_on_stack_of thread segment ≡ y ∷ ys
+          → 0 < length (steps_of_thread thread (before ++ segment))
       own_there thread ys y is =
           let all_own = ap (length {A = Step}) (own-append thread before segment)
-          ∙ length-append (own thread before) (own thread segment) in
-          let seen = sym (length-map (own thread segment) (λ (x : Step). x.seen)) ∙ ap (length {A = Seen}) is in
+          ∙ length-append (steps_of_thread thread before) (steps_of_thread thread segment) in
+          let seen = sym (length-map (steps_of_thread thread segment) (λ (x : Step). x.on_stack)) ∙ ap (length {A = EventOnStack}) is in
           omega (arith, all_own, seen)
 
       thread_fits : (thread : ℕ) (earlier : List Call) → Stands earlier (before ++ segment)
           → FitAll syms earlier (of_thread thread) × Stands (earlier ++ of_thread thread) (before ++ segment)
-      thread_fits thread earlier stands = by (own_seen thread segment) refl
+      thread_fits thread earlier stands = by (events_on_stack_of thread segment) refl
         where
-          by : (ys : List Seen) → own_seen thread segment ≡ ys
+          by : (ys : List EventOnStack) → events_on_stack_of thread segment ≡ ys
               → FitAll syms earlier (thread_calls rows_of head part trigger thread ys)
               × Stands (earlier ++ thread_calls rows_of head part trigger thread ys) (before ++ segment)
           by [] none =
@@ -161,9 +161,9 @@ module _ (syms : SymbolMap) where
           by (y ∷ ys) some = (
             (
               (
-                subst (λ (past : List Step). 0 < length (own thread past)) (sym stands.steps)
+                subst (λ (past : List Step). 0 < length (steps_of_thread thread past)) (sym stands.steps)
                     (own_there thread ys y some),
-                subst (λ (xs : List Seen). AreKnown syms (rows_of xs)) some (known thread before segment after whole),
+                subst (λ (xs : List EventOnStack). AreKnown syms (rows_of xs)) some (known thread before segment after whole),
               ),
               tt,
             ),
@@ -249,39 +249,39 @@ module _ (syms : SymbolMap) where
     last_fit : (part : ℕ) (trigger : Trigger) (before segment : List Step) → before ++ segment ≡ all → (us : List ℕ)
         → (earlier : List Call) → steps_in earlier ≡ before ++ segment
         → FitAll syms earlier
-        (flat_map (λ thread. thread_calls rows_of head part trigger thread (own_seen thread segment)) us)
+        (flat_map (λ thread. thread_calls rows_of head part trigger thread (events_on_stack_of thread segment)) us)
     last_fit part trigger before segment whole [] earlier steps = tt
     last_fit part trigger before segment whole (u ∷ us) earlier steps =
-        fit_append syms earlier (thread_calls rows_of head part trigger u (own_seen u segment))
-        (flat_map (λ thread. thread_calls rows_of head part trigger thread (own_seen thread segment)) us)
-        (by (own_seen u segment) refl)
+        fit_append syms earlier (thread_calls rows_of head part trigger u (events_on_stack_of u segment))
+        (flat_map (λ thread. thread_calls rows_of head part trigger thread (events_on_stack_of thread segment)) us)
+        (by (events_on_stack_of u segment) refl)
         (last_fit part trigger before segment whole us
-        (earlier ++ thread_calls rows_of head part trigger u (own_seen u segment))
-        (same (own_seen u segment) ∙ steps))
+        (earlier ++ thread_calls rows_of head part trigger u (events_on_stack_of u segment))
+        (same (events_on_stack_of u segment) ∙ steps))
       where
         whole_nil : before ++ (segment ++ []) ≡ all
         whole_nil = ap (λ (ys : List Step). before ++ ys) (append-nil segment) ∙ whole
 
-        same : (ys : List Seen) → steps_in (earlier ++ thread_calls rows_of head part trigger u ys) ≡ steps_in earlier
+        same : (ys : List EventOnStack) → steps_in (earlier ++ thread_calls rows_of head part trigger u ys) ≡ steps_in earlier
         same [] = ap steps_in (append-nil earlier)
         same (y ∷ ys) =
             steps_more earlier (Writes (head_of head part trigger u) (rows_of (y ∷ ys))) ∙ append-nil (steps_in earlier)
 
-        by : (ys : List Seen) → own_seen u segment ≡ ys
+        by : (ys : List EventOnStack) → events_on_stack_of u segment ≡ ys
             → FitAll syms earlier (thread_calls rows_of head part trigger u ys)
         by [] none = tt
         by (y ∷ ys) some = (
           (
-            subst (λ (past : List Step). 0 < length (own u past)) (sym steps)
+            subst (λ (past : List Step). 0 < length (steps_of_thread u past)) (sym steps)
                 (own_there part trigger before segment [] whole_nil u ys y some),
-            subst (λ (xs : List Seen). AreKnown syms (rows_of xs)) some (known u before segment [] whole_nil),
+            subst (λ (xs : List EventOnStack). AreKnown syms (rows_of xs)) some (known u before segment [] whole_nil),
           ),
           tt,
         )
 
-  module _ (rows_of : List Seen → Listed) (head : PartHead) (asked : Asked) (trace : List Step)
+  module _ (rows_of : List EventOnStack → Listed) (head : PartHead) (asked : DumpPoints) (trace : List Step)
       (known : (thread : ℕ) (before segment after : List Step) → before ++ (segment ++ after) ≡ trace
-      → AreKnown syms (rows_of (own_seen thread segment))) (orderly : AreOrderly syms trace) where
+      → AreKnown syms (rows_of (events_on_stack_of thread segment))) (orderly : AreOrderly syms trace) where
     abbrev closed : List (List Step × Trigger)
     closed = (cuts syms asked trace).closed
 
@@ -311,12 +311,12 @@ module _ (syms : SymbolMap) where
     pub steps_are : steps_in (closed_calls rows_of head closed ++ steps_calls recent) ≡ trace
     steps_are = recent_stands.steps ∙ together
 
-    pub so_far_watched : Watched syms (closed_calls rows_of head closed ++ steps_calls recent)
+    pub so_far_watched : AreWatched syms (closed_calls rows_of head closed ++ steps_calls recent)
     so_far_watched =
         fit_append syms [] (closed_calls rows_of head closed) (steps_calls recent) closed_all.0
         (steps_fit recent (closed_calls rows_of head closed) done closed_all.1 recent_order)
 
-    pub run_watched : (tried : Option (ThreadNo × ℕ)) → Watched syms (calls rows_of head syms asked trace tried)
+    pub run_watched : (tried : Option (ThreadNo × ℕ)) → AreWatched syms (calls rows_of head syms asked trace tried)
     unfolding calls
     run_watched tried =
         let early = closed_calls rows_of head closed ++ steps_calls recent in

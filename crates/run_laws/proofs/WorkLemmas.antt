@@ -12,18 +12,18 @@ use Rattle.event_costs.specs.declared.kind.Kind.TheVariants.{Bc, Bcm, Bi, Bim}
 use Rattle.sym_map.specs.SymbolMap.{SymbolMap, place_of}
 use Rattle.shadow_stack.specs.Changes.{after, change}
 use Rattle.shadow_stack.specs.Stacks.{Stack, root}
-use Rattle.shadow_stack.specs.Traces.{Seen, first_pc}
+use Rattle.shadow_stack.specs.Traces.{EventOnStack, first_pc}
 use Rattle.event_costs.specs.Order.{same_place}
 use Rattle.cache_lru.specs.Costs.{Shapes, event_cost}
-use Rattle.guest_sched.specs.Step.{Told}
-use Rattle.part_dump.specs.Steps.{Step, event_of, own, own_events, own_seen, thread_of}
+use Rattle.guest_sched.specs.Step.{MachineStep}
+use Rattle.part_dump.specs.Steps.{Step, event_of, steps_of_thread, events_of_thread, events_on_stack_of, thread_of}
 use Rattle.recorder.specs.Standing as recorder
 use Rattle.recorder.specs.Sums.{entered_by, pushes}
-use Rattle.profile_run.specs.Guest.{Guest, CanRun}
+use Rattle.profile_run.specs.Program.{Program, CanRun}
 use Rattle.profile_run.specs.Steps.{AreTold}
-use Rattle.profile_run.specs.Trace.{Makes, Taken, steps_of}
-use Rattle.once_each.specs.Runs.{counted_step}
-use Rattle.run_laws.specs.Own.{HaveSameWork, first_stack, is_work, own_counted}
+use Rattle.profile_run.specs.Trace.{Makes, RunStep, steps_of}
+use Rattle.once_each.specs.Runs.{costed_step}
+use Rattle.run_laws.specs.ThreadWork.{HaveSameWork, first_stack, is_work, own_costed_events}
 use Rattle.run_laws.proofs.EventLemmas.{have_stacks, machine}
 use Rattle.run_laws.proofs.OwnRowLemmas.{own_folded}
 
@@ -51,24 +51,24 @@ same_count branches shapes others before past event Bim is = absurd (cc)
 pub record IsCosted (branches : Bool) (x : Step) : Type 0 where
   pub shapes : Shapes
   pub before : List Event
-  pub is : x.seen.cost ≡ event_cost branches shapes before (event_of x)
+  pub is : x.on_stack.cost ≡ event_cost branches shapes before (event_of x)
 
-costed_from : (guest : Guest) (before : List Taken) (tolds : List Told) (past : List Taken)
+costed_from : (guest : Program) (before : List RunStep) (tolds : List MachineStep) (past : List RunStep)
     → AreTold guest before tolds past → AllByRecursion (IsCosted guest.options.branch) (steps_of past)
 costed_from guest before [] [] are = tt
 costed_from guest before [] (x ∷ past) are = absurd are
 costed_from guest before (told ∷ tolds) [] are = absurd are
 costed_from guest before (told ∷ tolds) (x ∷ past) are = (
-  subst (λ (y : Taken). IsCosted guest.options.branch y.step) (sym are.0.is)
+  subst (λ (y : RunStep). IsCosted guest.options.branch y.step) (sym are.0.is)
       (record { shapes = guest.options.shapes; before = _; is = refl }),
   costed_from guest (before ++ x ∷ []) tolds past are.1,
 )
 
-own_costed : (guest : Guest) → CanRun guest → (past : List Taken) → Makes guest past → (thread : ℕ)
-    → AllByRecursion (IsCosted guest.options.branch) (own thread (steps_of past))
+own_costed : (guest : Program) → CanRun guest → (past : List RunStep) → Makes guest past → (thread : ℕ)
+    → AllByRecursion (IsCosted guest.options.branch) (steps_of_thread thread (steps_of past))
 own_costed guest can past makes thread =
     let m = machine guest can past makes in
-    recursion_from_All (IsCosted guest.options.branch) (own thread (steps_of past))
+    recursion_from_All (IsCosted guest.options.branch) (steps_of_thread thread (steps_of past))
     (All-filter (λ (x : Step). thread_of x == thread) (IsCosted guest.options.branch) (steps_of past)
     (All-from_recursion (IsCosted guest.options.branch) (steps_of past) (costed_from guest [] m.tolds past m.are)))
 
@@ -78,23 +78,23 @@ AreAlike kind [] [] = Unit {0}
 AreAlike kind [] (y ∷ ys) = ⊥
 AreAlike kind (x ∷ xs) [] = ⊥
 AreAlike kind (x ∷ xs) (y ∷ ys) =
-    (event_of x ≡ event_of y) × (get_or x.seen.cost kind 0 ≡ get_or y.seen.cost kind 0) × AreAlike kind xs ys
+    (event_of x ≡ event_of y) × (get_or x.on_stack.cost kind 0 ≡ get_or y.on_stack.cost kind 0) × AreAlike kind xs ys
 
 sums_alike : (syms : SymbolMap) (kind : ℕ) (sum : Event → Stack → ℕ → ℕ) (s : Stack) (xs ys : List Step)
     → AreAlike kind xs ys
-    → sum_by (λ (x : Seen). sum x.event x.stack (get_or x.cost kind 0)) (recorder.own_seen syms s (map counted_step xs))
-    ≡ sum_by (λ (x : Seen). sum x.event x.stack (get_or x.cost kind 0)) (recorder.own_seen syms s (map counted_step ys))
+    → sum_by (λ (x : EventOnStack). sum x.event x.stack (get_or x.cost kind 0)) (recorder.events_on_stack syms s (map costed_step xs))
+    ≡ sum_by (λ (x : EventOnStack). sum x.event x.stack (get_or x.cost kind 0)) (recorder.events_on_stack syms s (map costed_step ys))
 sums_alike syms kind sum s [] [] are = refl
 sums_alike syms kind sum s [] (y ∷ ys) are = absurd are
 sums_alike syms kind sum s (x ∷ xs) [] are = absurd are
 sums_alike syms kind sum s (x ∷ xs) (y ∷ ys) are =
-    let number = λ (x : Seen). sum x.event x.stack (get_or x.cost kind 0) in
+    let number = λ (x : EventOnStack). sum x.event x.stack (get_or x.cost kind 0) in
     let rest = λ (e : Event) (zs : List Step).
-    recorder.own_seen syms (after syms s e) (map counted_step zs) in
-    let first : Step → Seen = λ z. record { event = event_of z; cost = z.seen.cost; stack = s } in
+    recorder.events_on_stack syms (after syms s e) (map costed_step zs) in
+    let first : Step → EventOnStack = λ z. record { event = event_of z; cost = z.on_stack.cost; stack = s } in
     sum_by-cons number (first x) (rest (event_of x) xs)
     ∙ (λ i. sum (are.0 i) s (are.1 i) + sums_alike syms kind sum (after syms s (event_of x)) xs ys are.2 i)
-    ∙ (λ i. sum (event_of y) s (get_or y.seen.cost kind 0) + sum_by number (rest (are.0 i) ys))
+    ∙ (λ i. sum (event_of y) s (get_or y.on_stack.cost kind 0) + sum_by number (rest (are.0 i) ys))
     ∙ sym (sum_by-cons number (first y) (rest (event_of y) ys))
 
 events_alike : (branches : Bool) (kind : Kind) → is_work kind ≡ true → (xs ys : List Step)
@@ -114,10 +114,10 @@ events_alike branches kind work (x ∷ xs) (y ∷ ys) a b same =
       events_alike branches kind work xs ys a.1 b.1 others,
     )
 
-module _ (guest other : Guest) (past others : List Taken) (thread : ℕ) (can : CanRun guest) (could : CanRun other)
+module _ (guest other : Program) (past others : List RunStep) (thread : ℕ) (can : CanRun guest) (could : CanRun other)
     (makes : Makes guest past) (made : Makes other others) (one_map : guest.syms ≡ other.syms)
     (branches : guest.options.branch ≡ other.options.branch)
-    (same : own_events thread (steps_of past) ≡ own_events thread (steps_of others)) where
+    (same : events_of_thread thread (steps_of past) ≡ events_of_thread thread (steps_of others)) where
   abbrev syms : SymbolMap
   syms = guest.syms
 
@@ -125,29 +125,29 @@ module _ (guest other : Guest) (past others : List Taken) (thread : ℕ) (can : 
   first = first_stack syms thread (steps_of past)
 
   -- both begin with one stack
-  folded : own_seen thread (steps_of others) ≡ recorder.own_seen syms first (own_counted thread (steps_of others))
+  folded : events_on_stack_of thread (steps_of others) ≡ recorder.events_on_stack syms first (own_costed_events thread (steps_of others))
   folded =
       let map_back = sym one_map in
       let events_back = sym same in
       own_folded other.syms thread (steps_of others) (have_stacks other could others made)
-      ∙ (λ i. recorder.own_seen (map_back i) (root (map_back i) (first_pc (events_back i) 0))
-      (own_counted thread (steps_of others)))
+      ∙ (λ i. recorder.events_on_stack (map_back i) (root (map_back i) (first_pc (events_back i) 0))
+      (own_costed_events thread (steps_of others)))
 
   sums : (kind : Kind) → is_work kind ≡ true → (sum : Event → Stack → ℕ → ℕ)
-      → sum_by (λ (x : Seen). sum x.event x.stack (get_or x.cost (number kind) 0)) (own_seen thread (steps_of past))
-      ≡ sum_by (λ (x : Seen). sum x.event x.stack (get_or x.cost (number kind) 0)) (own_seen thread (steps_of others))
+      → sum_by (λ (x : EventOnStack). sum x.event x.stack (get_or x.cost (number kind) 0)) (events_on_stack_of thread (steps_of past))
+      ≡ sum_by (λ (x : EventOnStack). sum x.event x.stack (get_or x.cost (number kind) 0)) (events_on_stack_of thread (steps_of others))
   sums kind work sum =
-      let of_seen = λ (x : Seen). sum x.event x.stack (get_or x.cost (number kind) 0) in
+      let of_seen = λ (x : EventOnStack). sum x.event x.stack (get_or x.cost (number kind) 0) in
       ap (sum_by of_seen) (own_folded syms thread (steps_of past) (have_stacks guest can past makes))
-      ∙ sums_alike syms (number kind) sum first (own thread (steps_of past)) (own thread (steps_of others))
-      (events_alike guest.options.branch kind work (own thread (steps_of past)) (own thread (steps_of others))
+      ∙ sums_alike syms (number kind) sum first (steps_of_thread thread (steps_of past)) (steps_of_thread thread (steps_of others))
+      (events_alike guest.options.branch kind work (steps_of_thread thread (steps_of past)) (steps_of_thread thread (steps_of others))
       (own_costed guest can past makes thread)
-      (subst (λ b. AllByRecursion (IsCosted b) (own thread (steps_of others))) (sym branches)
+      (subst (λ b. AllByRecursion (IsCosted b) (steps_of_thread thread (steps_of others))) (sym branches)
       (own_costed other could others made thread))
       same)
       ∙ sym (ap (sum_by of_seen) folded)
 
-  pub same_work : HaveSameWork syms (own_seen thread (steps_of past)) (own_seen thread (steps_of others))
+  pub same_work : HaveSameWork syms (events_on_stack_of thread (steps_of past)) (events_on_stack_of thread (steps_of others))
   same_work = record {
     lines = λ kind place work. sums kind work (λ e s n. if same_place place (place_of syms e.done.pc) then n else 0);
     arcs = λ kind arc work. sums kind work (λ e s n. n * entered_by arc s);

@@ -8,19 +8,19 @@ use Rattle.sym_map.specs.AddressMap.{address_map}
 use Rattle.addr_rows.specs.Plain.{plain}
 use Rattle.addr_rows.specs.Rows.{AddrListed}
 use Rattle.addr_rows.specs.Files.{addr_files, closed_files}
-use Rattle.profile_run.specs.Guest.{Guest, head_of_run}
+use Rattle.profile_run.specs.Program.{Program, head_of_run}
 use Rattle.profile_run.specs.Parts.{Writing}
 
 -- the guest, with the map that tells code by its addresses
-abbrev pub addressed : Guest → Guest
+abbrev pub addressed : Program → Program
 addressed guest = record guest { syms = address_map guest.syms }
 
 -- The files have the texts of the rows by address.
-abbrev pub addr_parts : Guest → Writing
+abbrev pub addr_parts : Program → Writing
 addr_parts guest = record {
   at_cuts = λ steps. closed_files (head_of_run guest) guest.syms guest.options.base
-      (cuts guest.syms guest.options.asked steps).closed;
-  whole = λ steps tried. addr_files (head_of_run guest) guest.syms guest.options.base guest.options.asked steps;
+      (cuts guest.syms guest.options.dump_points steps).closed;
+  whole = λ steps tried. addr_files (head_of_run guest) guest.syms guest.options.base guest.options.dump_points steps;
 }
 
 -- Rows meet the conditions of `fold`: no sum over the addresses of a line or of an arc passes 64 bits.

@@ -7,15 +7,15 @@ use Rattle.part_dump.specs.Cuts.{cuts}
 use Rattle.ctx_rows.specs.Folding.{HaveContexts, plain}
 use Rattle.ctx_rows.specs.Rows.{CtxListed}
 use Rattle.ctx_rows.specs.Files.{closed_files, ctx_files}
-use Rattle.profile_run.specs.Guest.{Guest, head_of_run}
+use Rattle.profile_run.specs.Program.{Program, head_of_run}
 use Rattle.profile_run.specs.Parts.{Writing}
 
 -- The files have the texts of the rows by contexts of so many callers.
-abbrev pub ctx_parts : ℕ → Guest → Writing
+abbrev pub ctx_parts : ℕ → Program → Writing
 ctx_parts callers guest = record {
   at_cuts = λ steps. closed_files callers (head_of_run guest) guest.syms guest.options.base
-      (cuts guest.syms guest.options.asked steps).closed;
-  whole = λ steps tried. ctx_files callers (head_of_run guest) guest.syms guest.options.base guest.options.asked steps;
+      (cuts guest.syms guest.options.dump_points steps).closed;
+  whole = λ steps tried. ctx_files callers (head_of_run guest) guest.syms guest.options.base guest.options.dump_points steps;
 }
 
 -- Rows meet the conditions of `fold`: no sum over the contexts of a function passes 64 bits. No context is empty, too.

@@ -1,6 +1,6 @@
 pub mod Runs
 pub mod Profiles
-pub mod Own
+pub mod ThreadWork
 pub mod OwnParts
 pub mod Contexts
 pub mod Addresses

@@ -2,23 +2,23 @@
 use Rattle.std.specs.Prelude.{◌≡◌, ◌⊎◌, ℕ, List, length, map}
 use Rattle.outside.specs.Files.{Rose}
 use Rattle.outside.specs.Outside.{Named}
-use Rattle.profile_files.specs.Wanted.{Wanted}
+use Rattle.profile_files.specs.WantedFile.{WantedFile}
 use Rattle.profile_files.specs.declared.fault.ReadFault.{ReadFault}
 use Rattle.profile_files.specs.declared.fault.ReadFault.TheVariants.{LoadFault, OutOfMemory}
-use Rattle.profile_run.specs.Guest.{Guest}
+use Rattle.profile_run.specs.Program.{Program}
 use Rattle.profile_run.specs.Parts.{plain_parts}
-use Rattle.profile_run.specs.Trace.{Stop, Taken, steps_of}
+use Rattle.profile_run.specs.Trace.{Stop, RunStep, steps_of}
 use Rattle.byte_text.specs.Memory.{memory}
 
 -- the files of a run that nobody watches
-abbrev pub files_of_run : Guest → List Taken → Stop → List Named
+abbrev pub files_of_run : Program → List RunStep → Stop → List Named
 files_of_run guest trace stop = (plain_parts guest).whole (steps_of trace) stop.tried
 
 abbrev pub texts_of_files : List Named → List (List ℕ)
 texts_of_files files = map (λ f. f.1) files
 
 -- each file with its length as the limit
-abbrev pub with_their_lengths : List Named → List Wanted
+abbrev pub with_their_lengths : List Named → List WantedFile
 with_their_lengths files = map (λ f. record { name = f.0; limit = length f.1 }) files
 
 -- memory was wanting, or a load failed

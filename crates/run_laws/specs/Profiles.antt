@@ -6,36 +6,36 @@ use Rattle.cg_read.specs.Profiles.{Contents, IsProfile}
 use Rattle.once_each.specs.Graphs.{graph}
 use Rattle.once_each.specs.Once.{once, once_pair}
 use Rattle.once_each.specs.Texts.{numbers_in}
-use Rattle.profile_run.specs.Guest.{Guest, head_of_run}
-use Rattle.profile_run.specs.Trace.{Taken}
+use Rattle.profile_run.specs.Program.{Program, head_of_run}
+use Rattle.profile_run.specs.Trace.{RunStep}
 use Rattle.reads_back.specs.Rows.{IsOfRows, naming}
-use Rattle.run_laws.specs.Runs.{command_of_run, events_counted, events_seen, rows_of_run}
+use Rattle.run_laws.specs.Runs.{command_of_run, events_with_costs, events_with_stacks, rows_of_run}
 
 -- a profile of all rows of a run, and of their command
-pub record IsProfileOfRun (guest : Guest) (trace : List Taken) (p : Contents) : Type 0 where
+pub record IsProfileOfRun (guest : Program) (trace : List RunStep) (p : Contents) : Type 0 where
   pub profile : IsProfile p
   pub rows : IsOfRows (head_of_run guest) (command_of_run guest trace) (rows_of_run guest trace) guest.syms p
 
 -- the number that a profile has for a function of the map, by its texts
-abbrev pub number_in : Guest → Contents → ℕ → ℕ
+abbrev pub number_in : Program → Contents → ℕ → ℕ
 number_in guest p = (numbers_in p (naming (head_of_run guest) guest.syms)).func
 
 -- the call graph of a run
-abbrev pub graph_of_run : Guest → List Taken → List CallArc
-graph_of_run guest trace = graph guest.syms (events_counted trace)
+abbrev pub graph_of_run : Program → List RunStep → List CallArc
+graph_of_run guest trace = graph guest.syms (events_with_costs trace)
 
 -- what the events of a run cost on whose thread's stack a function of the group stands, each counted once
-abbrev pub group_once : Guest → List Taken → Contents → Grouping → ℕ → ℕ → ℕ
+abbrev pub group_once : Program → List RunStep → Contents → Grouping → ℕ → ℕ → ℕ
 group_once guest trace p groups group kind =
-    once (λ f. is_member groups group (number_in guest p f)) kind (events_seen trace)
+    once (λ f. is_member groups group (number_in guest p f)) kind (events_with_stacks trace)
 
 -- and those on whose thread's stack one of these functions of the profile stands directly on the other
-abbrev pub pair_once : Guest → List Taken → Contents → ℕ → ℕ → ℕ → ℕ
+abbrev pub pair_once : Program → List RunStep → Contents → ℕ → ℕ → ℕ → ℕ
 pair_once guest trace p caller callee kind =
-    once_pair (λ f. number_in guest p f == caller) (λ f. number_in guest p f == callee) kind (events_seen trace)
+    once_pair (λ f. number_in guest p f == caller) (λ f. number_in guest p f == callee) kind (events_with_stacks trace)
 
 -- for each group what the events cost during which one of its functions stands on their thread's stack
-pub record CountOnce (guest : Guest) (trace : List Taken) (p : Contents) (groups : Grouping)
+pub record CountOnce (guest : Program) (trace : List RunStep) (p : Contents) (groups : Grouping)
     (costs : List (List ℕ)) : Type 0 where
   pub count : length costs ≡ length groups.cyclic
   pub width : (group : ℕ) → group < length costs → length (slice_index_or costs group []) ≡ length p.events

@@ -7,7 +7,7 @@ use Rattle.part_dump.specs.Plain.{plain}
 use Rattle.part_dump.specs.Watching.{Meaning, after_call, put_of, puts}
 use Rattle.wait_report.specs.Keeping as waits
 use Rattle.ctx_rows.specs.Watching as contexts
-use Rattle.addr_rows.specs.Translated.{translated}
+use Rattle.addr_rows.specs.Translated.{translation}
 use Rattle.profile_run.specs.Parts.{calls_of, calls_so_far, watched_parts}
 use Rattle.run_watches.specs.Laws.{IsOfKind}
 use Rattle.run_watches.specs.Watching.{watching}
@@ -48,5 +48,5 @@ waits_are = is_of_kind waits_told
 pub contexts_are : IsOfKind contexts.by_context Contexts
 contexts_are = is_of_kind contexts_told
 
-pub addresses_are : IsOfKind translated Addresses
+pub addresses_are : IsOfKind translation Addresses
 addresses_are = is_of_kind addresses_told

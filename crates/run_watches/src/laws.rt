@@ -3,7 +3,7 @@
 ghost use Rattle.part_dump.specs.Plain.{plain};
 ghost use Rattle.wait_report.specs.Keeping.{watching};
 ghost use Rattle.ctx_rows.specs.Watching.{by_context};
-ghost use Rattle.addr_rows.specs.Translated.{translated};
+ghost use Rattle.addr_rows.specs.Translated.{translation};
 ghost use Rattle.run_watches.specs.Laws.{IsOfKind};
 ghost use Rattle.run_watches.specs.declared.run_watch.RunWatch.TheVariants.{Addresses, Contexts, Nobody, Waits};
 
@@ -12,5 +12,5 @@ pub fn each_watch_is_of_its_kind()
     ensures nobody { IsOfKind plain Nobody }
     ensures waits { IsOfKind watching Waits }
     ensures contexts { IsOfKind by_context Contexts }
-    ensures addresses { IsOfKind translated Addresses }
+    ensures addresses { IsOfKind translation Addresses }
 {}

@@ -6,7 +6,7 @@ use Rattle.std.proofs.lemmas.Bool.{eqb-true, eq-eqb}
 use Rattle.std.proofs.lemmas.List.Elements.{All-contains, All-contains_itself, All-weaker, Contains-get_or}
 use Rattle.std.proofs.lemmas.List.Quantifiers.{position-Some}
 use Rattle.rv_decode.specs.inner.Candidate.{candidate_of}
-use Rattle.rv_decode.specs.Decoded.{decoded, matching_row}
+use Rattle.rv_decode.specs.Decoded.{decode, matching_row}
 use Rattle.rv_decode.specs.Layout.{instr_of}
 use Rattle.rv_decode.specs.Matching.{Matches, matches}
 use Rattle.rv_decode.specs.Table.{listed_rows, row_of}
@@ -72,16 +72,16 @@ other_row w o row is of_op fails = other_row_at w o row is of_op fails (matching
 
 -- ---- what a word decodes to
 
-pub decoded-none : (w : ℕ) → matching_row w ≡ None → decoded w ≡ None
-unfolding decoded
+pub decoded-none : (w : ℕ) → matching_row w ≡ None → decode w ≡ None
+unfolding decode
 decoded-none w e = ap (λ o. option_map (λ (row : Row). instr_of row.shape row.op w) o) e
 
-pub decoded-some : (w : ℕ) (row : Row) → matching_row w ≡ Some row → decoded w ≡ Some (instr_of row.shape row.op w)
-unfolding decoded
+pub decoded-some : (w : ℕ) (row : Row) → matching_row w ≡ Some row → decode w ≡ Some (instr_of row.shape row.op w)
+unfolding decode
 decoded-some w row e = ap (λ o. option_map (λ (row : Row). instr_of row.shape row.op w) o) e
 
 -- nothing is decoded exactly where no row matches
-none_exactly_at : (w : ℕ) (m : Option Row) → matching_row w ≡ m → (o : Option Instr) → o ≡ decoded w
+none_exactly_at : (w : ℕ) (m : Option Row) → matching_row w ≡ m → (o : Option Instr) → o ≡ decode w
     → IsNone o ↔ All (λ row. Matches w row → ⊥) listed_rows
 none_exactly_at w None e None is = (λ _. unmatched w e, λ _. refl)
 none_exactly_at w None e (Some i) is = let none = decoded-none w e in cc
@@ -90,11 +90,11 @@ none_exactly_at w (Some r) e (Some i) is =
     let at = matched w r e in
     (λ h. cc, λ none. absurd (All-contains (λ x. Matches w x → ⊥) listed_rows r none at.1 at.0))
 
-pub none_exactly : (w : ℕ) (o : Option Instr) → o ≡ decoded w → IsNone o ↔ All (λ row. Matches w row → ⊥) listed_rows
+pub none_exactly : (w : ℕ) (o : Option Instr) → o ≡ decode w → IsNone o ↔ All (λ row. Matches w row → ⊥) listed_rows
 none_exactly w o is = none_exactly_at w (matching_row w) refl o is
 
 -- what is decoded is what each row that matches gives
-by_each_row_at : (w : ℕ) (m : Option Row) → matching_row w ≡ m → (o : Option Instr) → o ≡ decoded w
+by_each_row_at : (w : ℕ) (m : Option Row) → matching_row w ≡ m → (o : Option Instr) → o ≡ decode w
     → IfSome o (λ i. All (λ row. Matches w row → i ≡ instr_of row.shape row.op w) listed_rows)
 by_each_row_at w m e None is = tt
 by_each_row_at w None e (Some i) is = let none = decoded-none w e in cc
@@ -106,7 +106,7 @@ by_each_row_at w (Some r) e (Some i) is =
     (λ row stands. λ h. same ∙ ap (λ (x : Row). instr_of x.shape x.op w) (one_row w r row at.1 stands at.0 h))
     listed_rows (All-contains_itself listed_rows)
 
-pub by_each_row : (w : ℕ) (o : Option Instr) → o ≡ decoded w
+pub by_each_row : (w : ℕ) (o : Option Instr) → o ≡ decode w
     → IfSome o (λ i. All (λ row. Matches w row → i ≡ instr_of row.shape row.op w) listed_rows)
 by_each_row w o is = by_each_row_at w (matching_row w) refl o is
 

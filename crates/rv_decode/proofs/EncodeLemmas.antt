@@ -2,7 +2,7 @@
 use Rattle.std.proofs.Common.{◌≡◌, ℕ, ℤ, pos, negsuc, ◌+◌, ◌*◌, ◌%◌, ◌^◌, ◌<◌, inl, inr, bit_and, refl, sym, ap, ◌∙◌}
 use Rattle.std.proofs.Common.{arith}
 use Rattle.std.specs.Int.{cast_unsigned, w32}
-use Rattle.rv_decode.specs.Encoded.{HasRanges, IsAmount, placed}
+use Rattle.rv_decode.specs.Encoded.{HasRanges, IsAmount, operand_bits}
 use Rattle.rv_decode.specs.Fields.{field, twos_complement}
 use Rattle.rv_decode.specs.Layout.{instr_of}
 use Rattle.rv_decode.specs.declared.instr.Instr.{Instr}
@@ -202,9 +202,9 @@ alike_f9f0707f v bits mask m is a b c d = ap (λ x. bit_and v x) m ∙ mask-f9f0
 -- ---- the whole
 
 pub record GivesBack (s : Shape) (mask bits : ℕ) (i : Instr) : Type 0 where
-  pub matches : bit_and (bits + placed s i) mask ≡ bits
-  pub fields : instr_of s i.op (bits + placed s i) ≡ i
-  pub below : bits + placed s i < 2 ^ 32
+  pub matches : bit_and (bits + operand_bits s i) mask ≡ bits
+  pub fields : instr_of s i.op (bits + operand_bits s i) ≡ i
+  pub below : bits + operand_bits s i < 2 ^ 32
 
 under_mask : (mask m bits : ℕ) (look : ℕ) → mask ≡ m → bit_and bits mask ≡ bits → bit_and bits m ≡ look → bits ≡ look
 under_mask mask m bits look e under is = sym under ∙ ap (λ x. bit_and bits x) e ∙ is
@@ -213,9 +213,9 @@ gives_back_i : (mask bits : ℕ) (i : Instr) → mask ≡ 0x707f → bit_and bit
     → GivesBack I mask bits i
 gives_back_i mask bits i m under h =
     let is = under_mask mask 0x707f bits (field 12 3 bits * 2 ^ 12 + field 0 7 bits) m under (mask-707f bits) in
-    let v = bits + placed I i in
+    let v = bits + operand_bits I i in
     let p = parts_i v (field 0 7 bits) (field 12 3 bits) i.rd i.rs1 (cast_unsigned w32 i.imm) (field-below 0 7 bits)
-    (field-below 12 3 bits) h.0 h.1 (ap (λ b. b + placed I i) is) in
+    (field-below 12 3 bits) h.0 h.1 (ap (λ b. b + operand_bits I i) is) in
     record {
       matches = alike_707f v bits mask m is p.f12 p.f0;
       fields = same_instr i (field 7 5 v) (field 15 5 v) 0 0 (twos_complement 2048 (field 20 12 v)) p.f7 p.f15 (sym h.2)
@@ -229,9 +229,9 @@ gives_back_r mask bits i m under h =
     let is =
     under_mask mask 0xfe00707f bits (field 25 7 bits * 2 ^ 25 + (field 12 3 bits * 2 ^ 12 + field 0 7 bits)) m under
     (mask-fe00707f bits) in
-    let v = bits + placed R i in
+    let v = bits + operand_bits R i in
     let p = parts_r v (field 0 7 bits) (field 12 3 bits) (field 25 7 bits) i.rd i.rs1 i.rs2 (field-below 0 7 bits)
-    (field-below 12 3 bits) (field-below 25 7 bits) h.0 h.1 h.2 (ap (λ b. b + placed R i) is) in
+    (field-below 12 3 bits) (field-below 25 7 bits) h.0 h.1 h.2 (ap (λ b. b + operand_bits R i) is) in
     record {
       matches = alike_fe00707f v bits mask m is p.f25 p.f12 p.f0;
       fields = same_instr i (field 7 5 v) (field 15 5 v) (field 20 5 v) 0 (pos 0) p.f7 p.f15 p.f20 (sym h.3) (sym h.4);
@@ -249,11 +249,11 @@ gives_back_shift mask bits i m under h =
     let is =
     under_mask mask 0xfe00707f bits (field 25 7 bits * 2 ^ 25 + (field 12 3 bits * 2 ^ 12 + field 0 7 bits)) m under
     (mask-fe00707f bits) in
-    let v = bits + placed Shift i in
+    let v = bits + operand_bits Shift i in
     let u = cast_unsigned w32 i.imm in
     let p = parts_r v (field 0 7 bits) (field 12 3 bits) (field 25 7 bits) i.rd i.rs1 (field 0 5 u)
     (field-below 0 7 bits) (field-below 12 3 bits) (field-below 25 7 bits) h.0 h.1 (field-below 0 5 u)
-    (ap (λ b. b + placed Shift i) is) in
+    (ap (λ b. b + operand_bits Shift i) is) in
     record {
       matches = alike_fe00707f v bits mask m is p.f25 p.f12 p.f0;
       fields = same_instr i (field 7 5 v) (field 15 5 v) 0 0 (pos (field 20 5 v)) p.f7 p.f15 (sym h.2)
@@ -265,9 +265,9 @@ gives_back_s : (mask bits : ℕ) (i : Instr) → mask ≡ 0x707f → bit_and bit
     → GivesBack S mask bits i
 gives_back_s mask bits i m under h =
     let is = under_mask mask 0x707f bits (field 12 3 bits * 2 ^ 12 + field 0 7 bits) m under (mask-707f bits) in
-    let v = bits + placed S i in
+    let v = bits + operand_bits S i in
     let p = parts_s v (field 0 7 bits) (field 12 3 bits) i.rs1 i.rs2 (cast_unsigned w32 i.imm) (field-below 0 7 bits)
-    (field-below 12 3 bits) h.1 h.2 (ap (λ b. b + placed S i) is) in
+    (field-below 12 3 bits) h.1 h.2 (ap (λ b. b + operand_bits S i) is) in
     record {
       matches = alike_707f v bits mask m is p.f12 p.f0;
       fields =
@@ -281,10 +281,10 @@ gives_back_b : (mask bits : ℕ) (i : Instr) → mask ≡ 0x707f → bit_and bit
     → GivesBack B mask bits i
 gives_back_b mask bits i m under h =
     let is = under_mask mask 0x707f bits (field 12 3 bits * 2 ^ 12 + field 0 7 bits) m under (mask-707f bits) in
-    let v = bits + placed B i in
+    let v = bits + operand_bits B i in
     let even = bits-even i.imm (wider 4096 i.imm (omega arith) h.3.0) h.3.1 in
     let p = parts_b v (field 0 7 bits) (field 12 3 bits) i.rs1 i.rs2 (cast_unsigned w32 i.imm) (field-below 0 7 bits)
-    (field-below 12 3 bits) h.1 h.2 even (ap (λ b. b + placed B i) is) in
+    (field-below 12 3 bits) h.1 h.2 even (ap (λ b. b + operand_bits B i) is) in
     record {
       matches = alike_707f v bits mask m is p.f12 p.f0;
       fields =
@@ -299,9 +299,9 @@ gives_back_u : (mask bits : ℕ) (i : Instr) → mask ≡ 0x7f → bit_and bits 
     → GivesBack U mask bits i
 gives_back_u mask bits i m under h =
     let is = under_mask mask 0x7f bits (field 0 7 bits) m under (mask-7f bits) in
-    let v = bits + placed U i in
+    let v = bits + operand_bits U i in
     let p = parts_u v (field 0 7 bits) i.rd (cast_unsigned w32 i.imm) (field-below 0 7 bits) h.0
-    (bits-below i.imm h.3.0) (bits-upper i.imm h.3.0 h.3.1) (ap (λ b. b + placed U i) is) in
+    (bits-below i.imm h.3.0) (bits-upper i.imm h.3.0 h.3.1) (ap (λ b. b + operand_bits U i) is) in
     record {
       matches = alike_7f v bits mask m is p.f0;
       fields =
@@ -314,10 +314,10 @@ gives_back_j : (mask bits : ℕ) (i : Instr) → mask ≡ 0x7f → bit_and bits 
     → GivesBack J mask bits i
 gives_back_j mask bits i m under h =
     let is = under_mask mask 0x7f bits (field 0 7 bits) m under (mask-7f bits) in
-    let v = bits + placed J i in
+    let v = bits + operand_bits J i in
     let even = bits-even i.imm (wider (2 ^ 20) i.imm (omega arith) h.3.0) h.3.1 in
     let p = parts_j v (field 0 7 bits) i.rd (cast_unsigned w32 i.imm) (field-below 0 7 bits) h.0 even
-    (ap (λ b. b + placed J i) is) in
+    (ap (λ b. b + operand_bits J i) is) in
     record {
       matches = alike_7f v bits mask m is p.f0;
       fields =
@@ -346,10 +346,10 @@ gives_back_atomic mask bits i (inl m) under h none =
     let is =
     under_mask mask 0xf800707f bits
     (field 27 5 bits * 2 ^ 27 + (field 12 3 bits * 2 ^ 12 + field 0 7 bits)) m.0 under (mask-f800707f bits) in
-    let v = bits + placed Atomic i in
+    let v = bits + operand_bits Atomic i in
     let p = parts_a v (field 0 7 bits) (field 12 3 bits) (field 27 5 bits) i.rd i.rs1 i.rs2 i.order
     (field-below 0 7 bits) (field-below 12 3 bits) (field-below 27 5 bits) h.0 h.1 h.2 h.4
-    (ap (λ b. b + placed Atomic i) is) in
+    (ap (λ b. b + operand_bits Atomic i) is) in
     record {
       matches = alike_f800707f v bits mask m.0 is p.f27 p.f12 p.f0;
       fields = same_instr i (field 7 5 v) (field 15 5 v) (field 20 5 v) (field 25 2 v) (pos 0) p.f7 p.f15 p.f20
@@ -364,10 +364,10 @@ gives_back_atomic mask bits i (inr m) under h none =
     let is : bits ≡ field 27 5 bits * 2 ^ 27 + (field 12 3 bits * 2 ^ 12 + field 0 7 bits) = look
     ∙ ap (λ x. field 27 5 bits * 2 ^ 27 + (x * 2 ^ 20 + (field 12 3 bits * 2 ^ 12 + field 0 7 bits))) m.2
     ∙ omega arith in
-    let v = bits + placed Atomic i in
+    let v = bits + operand_bits Atomic i in
     let p = parts_a v (field 0 7 bits) (field 12 3 bits) (field 27 5 bits) i.rd i.rs1 i.rs2 i.order
     (field-below 0 7 bits) (field-below 12 3 bits) (field-below 27 5 bits) h.0 h.1 h.2 h.4
-    (ap (λ b. b + placed Atomic i) is) in
+    (ap (λ b. b + operand_bits Atomic i) is) in
     record {
       matches = alike_f9f0707f v bits mask m.0 is p.f27 p.f12 p.f0 (p.f20 ∙ none m.1);
       fields = same_instr i (field 7 5 v) (field 15 5 v) (field 20 5 v) (field 25 2 v) (pos 0) p.f7 p.f15 p.f20

@@ -1,7 +1,7 @@
 -- A word that decodes is encoded again as itself, and its fields are in their ranges.
 use Rattle.std.proofs.Common.{◌≡◌, ℕ, ◌+◌, ◌*◌, ◌%◌, ◌^◌, ◌<◌, inl, inr, bit_and, refl, sym, ap, ◌∙◌, arith}
 use Rattle.std.specs.Int.{cast_unsigned, w32}
-use Rattle.rv_decode.specs.Encoded.{HasRanges, placed}
+use Rattle.rv_decode.specs.Encoded.{HasRanges, operand_bits}
 use Rattle.rv_decode.specs.Fields.{field, imm_b, imm_i, imm_j, imm_s, imm_u}
 use Rattle.rv_decode.specs.Layout.{instr_of}
 use Rattle.rv_decode.specs.declared.instr.Op.{Op}
@@ -91,36 +91,36 @@ low_j w =
 
 -- the row's bits and the fields of the word give the word
 pub again : (s : Shape) (mask bits w : ℕ) (o : Op) → HasMask s mask bits o → bit_and w mask ≡ bits → w < 2 ^ 32
-    → bits + placed s (instr_of s o w) ≡ w
+    → bits + operand_bits s (instr_of s o w) ≡ w
 again R mask bits w o m h small =
-    ap (λ b. b + placed R (instr_of R o w)) (sym h ∙ ap (λ x. bit_and w x) m ∙ mask-fe00707f w) ∙ whole_r w small
+    ap (λ b. b + operand_bits R (instr_of R o w)) (sym h ∙ ap (λ x. bit_and w x) m ∙ mask-fe00707f w) ∙ whole_r w small
 again I mask bits w o m h small =
-    ap (λ b. b + placed I (instr_of I o w)) (sym h ∙ ap (λ x. bit_and w x) m ∙ mask-707f w)
+    ap (λ b. b + operand_bits I (instr_of I o w)) (sym h ∙ ap (λ x. bit_and w x) m ∙ mask-707f w)
     ∙ whole_i w (cast_unsigned w32 (imm_i w)) small (low_i w)
 again S mask bits w o m h small =
-    ap (λ b. b + placed S (instr_of S o w)) (sym h ∙ ap (λ x. bit_and w x) m ∙ mask-707f w)
+    ap (λ b. b + operand_bits S (instr_of S o w)) (sym h ∙ ap (λ x. bit_and w x) m ∙ mask-707f w)
     ∙ whole_s w (cast_unsigned w32 (imm_s w)) small (low_s w)
 again B mask bits w o m h small =
-    ap (λ b. b + placed B (instr_of B o w)) (sym h ∙ ap (λ x. bit_and w x) m ∙ mask-707f w)
+    ap (λ b. b + operand_bits B (instr_of B o w)) (sym h ∙ ap (λ x. bit_and w x) m ∙ mask-707f w)
     ∙ whole_b w (cast_unsigned w32 (imm_b w)) small (low_b w)
-again U mask bits w o m h small = ap (λ b. b + placed U (instr_of U o w)) (sym h ∙ ap (λ x. bit_and w x) m ∙ mask-7f w)
+again U mask bits w o m h small = ap (λ b. b + operand_bits U (instr_of U o w)) (sym h ∙ ap (λ x. bit_and w x) m ∙ mask-7f w)
     ∙ whole_u w (cast_unsigned w32 (imm_u w)) small (low_u w)
-again J mask bits w o m h small = ap (λ b. b + placed J (instr_of J o w)) (sym h ∙ ap (λ x. bit_and w x) m ∙ mask-7f w)
+again J mask bits w o m h small = ap (λ b. b + operand_bits J (instr_of J o w)) (sym h ∙ ap (λ x. bit_and w x) m ∙ mask-7f w)
     ∙ whole_j w (cast_unsigned w32 (imm_j w)) small (low_j w)
 again Shift mask bits w o m h small =
-    ap (λ b. b + placed Shift (instr_of Shift o w)) (sym h ∙ ap (λ x. bit_and w x) m ∙ mask-fe00707f w)
+    ap (λ b. b + operand_bits Shift (instr_of Shift o w)) (sym h ∙ ap (λ x. bit_and w x) m ∙ mask-fe00707f w)
     ∙ whole_shift w small
 again Fence mask bits w o m h small =
-    ap (λ b. b + placed Fence (instr_of Fence o w)) (sym h ∙ ap (λ x. bit_and w x) m ∙ mask-707f w)
+    ap (λ b. b + operand_bits Fence (instr_of Fence o w)) (sym h ∙ ap (λ x. bit_and w x) m ∙ mask-707f w)
     ∙ whole_i w (cast_unsigned w32 (imm_i w)) small (low_i w)
 again Whole mask bits w o m h small = let e : bits ≡ w = sym h ∙ ap (λ x. bit_and w x) m ∙ mask-ffffffff w small in
     omega (arith, e)
 again Atomic mask bits w o (inl m) h small =
-    ap (λ b. b + placed Atomic (instr_of Atomic o w)) (sym h ∙ ap (λ x. bit_and w x) m.0 ∙ mask-f800707f w)
+    ap (λ b. b + operand_bits Atomic (instr_of Atomic o w)) (sym h ∙ ap (λ x. bit_and w x) m.0 ∙ mask-f800707f w)
     ∙ whole_a w small
 again Atomic mask bits w o (inr m) h small =
     let looked : bit_and w 0xf9f0707f ≡ bits = ap (λ x. bit_and w x) (sym m.0) ∙ h in
-    ap (λ b. b + placed Atomic (instr_of Atomic o w)) (sym looked ∙ mask-f9f0707f w)
+    ap (λ b. b + operand_bits Atomic (instr_of Atomic o w)) (sym looked ∙ mask-f9f0707f w)
     ∙ whole_lr w small (field-masked 20 5 w 0xf9f0707f bits looked refl ∙ m.2)
 
 -- the fields of a word are in their ranges

@@ -13,5 +13,5 @@ unfoldable pub matching_row : ℕ → Option Row
 matching_row word = find (matches word) listed_rows
 
 -- that row's instruction with its fields
-unfoldable pub decoded : ℕ → Option Instr
-decoded word = option_map (λ row. instr_of row.shape row.op word) (matching_row word)
+unfoldable pub decode : ℕ → Option Instr
+decode word = option_map (λ row. instr_of row.shape row.op word) (matching_row word)

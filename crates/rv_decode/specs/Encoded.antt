@@ -14,23 +14,23 @@ abbrev pub imm_bits : ℕ → ℕ → Instr → ℕ
 imm_bits low len i = field low len (cast_unsigned w32 i.imm)
 
 -- the fields at their places, the row's own bits aside
-abbrev pub placed : Shape → Instr → ℕ
-placed R i = i.rd * 2 ^ 7 + i.rs1 * 2 ^ 15 + i.rs2 * 2 ^ 20
-placed I i = i.rd * 2 ^ 7 + i.rs1 * 2 ^ 15 + imm_bits 0 12 i * 2 ^ 20
-placed S i = imm_bits 0 5 i * 2 ^ 7 + i.rs1 * 2 ^ 15 + i.rs2 * 2 ^ 20 + imm_bits 5 7 i * 2 ^ 25
-placed B i = imm_bits 11 1 i * 2 ^ 7 + imm_bits 1 4 i * 2 ^ 8 + i.rs1 * 2 ^ 15 + i.rs2 * 2 ^ 20
+abbrev pub operand_bits : Shape → Instr → ℕ
+operand_bits R i = i.rd * 2 ^ 7 + i.rs1 * 2 ^ 15 + i.rs2 * 2 ^ 20
+operand_bits I i = i.rd * 2 ^ 7 + i.rs1 * 2 ^ 15 + imm_bits 0 12 i * 2 ^ 20
+operand_bits S i = imm_bits 0 5 i * 2 ^ 7 + i.rs1 * 2 ^ 15 + i.rs2 * 2 ^ 20 + imm_bits 5 7 i * 2 ^ 25
+operand_bits B i = imm_bits 11 1 i * 2 ^ 7 + imm_bits 1 4 i * 2 ^ 8 + i.rs1 * 2 ^ 15 + i.rs2 * 2 ^ 20
     + imm_bits 5 6 i * 2 ^ 25 + imm_bits 12 1 i * 2 ^ 31
-placed U i = i.rd * 2 ^ 7 + imm_bits 12 20 i * 2 ^ 12
-placed J i = i.rd * 2 ^ 7 + imm_bits 12 8 i * 2 ^ 12 + imm_bits 11 1 i * 2 ^ 20 + imm_bits 1 10 i * 2 ^ 21
+operand_bits U i = i.rd * 2 ^ 7 + imm_bits 12 20 i * 2 ^ 12
+operand_bits J i = i.rd * 2 ^ 7 + imm_bits 12 8 i * 2 ^ 12 + imm_bits 11 1 i * 2 ^ 20 + imm_bits 1 10 i * 2 ^ 21
     + imm_bits 20 1 i * 2 ^ 31
-placed Shift i = i.rd * 2 ^ 7 + i.rs1 * 2 ^ 15 + imm_bits 0 5 i * 2 ^ 20
-placed Fence i = i.rd * 2 ^ 7 + i.rs1 * 2 ^ 15 + imm_bits 0 12 i * 2 ^ 20
-placed Whole i = 0
-placed Atomic i = i.rd * 2 ^ 7 + i.rs1 * 2 ^ 15 + i.rs2 * 2 ^ 20 + i.order * 2 ^ 25
+operand_bits Shift i = i.rd * 2 ^ 7 + i.rs1 * 2 ^ 15 + imm_bits 0 5 i * 2 ^ 20
+operand_bits Fence i = i.rd * 2 ^ 7 + i.rs1 * 2 ^ 15 + imm_bits 0 12 i * 2 ^ 20
+operand_bits Whole i = 0
+operand_bits Atomic i = i.rd * 2 ^ 7 + i.rs1 * 2 ^ 15 + i.rs2 * 2 ^ 20 + i.order * 2 ^ 25
 
 -- the word of an instruction: its row's bits and its fields
-unfoldable pub encoded : Instr → ℕ
-encoded i = (row_of i.op).bits + placed (row_of i.op).shape i
+unfoldable pub encode : Instr → ℕ
+encode i = (row_of i.op).bits + operand_bits (row_of i.op).shape i
 
 -- from -half to half - 1; negsuc n is -(n + 1)
 abbrev pub IsWithin : ℕ → ℤ → Type 0

@@ -3,7 +3,7 @@
 ghost use Rattle.std.specs.Prelude.{◌≡◌, ◌<◌, ◌≤◌, ◌+◌, ◌*◌, ◌/◌, ◌%◌, ◌^◌};
 ghost use Rattle.rv_decode.specs.Fields.{field, imm_b, imm_i, imm_j, imm_s, imm_u, twos_complement};
 ghost use Rattle.rv_decode.specs.Layout.{instr_of};
-ghost use Rattle.rv_decode.specs.Encoded.{HasRegisters, placed};
+ghost use Rattle.rv_decode.specs.Encoded.{HasRegisters, operand_bits};
 
 use crate::instr::{Instr, Op};
 use crate::row::Shape;
@@ -119,9 +119,9 @@ pub fn instr_of(shape: Shape, op: Op, word: u32) -> Instr
 }
 
 /// The fields of the instruction at their places in a word that is laid out by `shape`.
-pub fn placed(shape: Shape, instr: Instr) -> u32
+pub fn operand_bits(shape: Shape, instr: Instr) -> u32
     requires { HasRegisters instr }
-    ensures { result ≡ placed shape instr }
+    ensures { result ≡ operand_bits shape instr }
 {
     let rd = u32::from(instr.rd) << 7;
     let rs1 = u32::from(instr.rs1) << 15;

@@ -7,10 +7,10 @@ use Rattle.std.proofs.Math.ListN.{drop_of_length-le, get_or, set}
 use Rattle.std.specs.Prelude.{Option, Some, None, slice_get}
 use Rattle.std.specs.Option.{option_and_then}
 use Rattle.rv_decode.specs.declared.instr.Instr.{Instr}
-use Rattle.rv_step.specs.Code.{found_at, kept}
+use Rattle.rv_step.specs.Code.{found_at, kept_instruction}
 use Rattle.rv_step.specs.Place.{place_of}
 use Rattle.rv_step.specs.declared.code.Code.{Code}
-use Rattle.rv_step.specs.declared.found.Found.{Found}
+use Rattle.rv_step.specs.declared.kept_instr.KeptInstr.{KeptInstr}
 use Rattle.rv_step.specs.inner.Places.{AreNoted, is_noted}
 
 same_or_not : (a b : ℕ) → (a ≡ b) ⊎ ¬ (a ≡ b)
@@ -19,40 +19,40 @@ same_or_not a b = grind arith
 pub place-below : (pc p : ℕ) → p ≡ pc / 4 % 65536 → p < 65536
 place-below pc p is = omega (arith, is)
 
-found-same : (pc : ℕ) (f : Found) → f.pc ≡ pc → found_at pc f ≡ Some f.instr
+found-same : (pc : ℕ) (f : KeptInstr) → f.pc ≡ pc → found_at pc f ≡ Some f.instr
 found-same pc f at = grind arith
 
-found-other : (pc : ℕ) (f : Found) (i : Instr) → found_at pc f ≡ Some i → f.pc ≡ pc
+found-other : (pc : ℕ) (f : KeptInstr) (i : Instr) → found_at pc f ≡ Some i → f.pc ≡ pc
 found-other pc f i is = grind arith
 
-found-elsewhere : (pc : ℕ) (f : Found) → ¬ (f.pc ≡ pc) → found_at pc f ≡ None
+found-elsewhere : (pc : ℕ) (f : KeptInstr) → ¬ (f.pc ≡ pc) → found_at pc f ≡ None
 found-elsewhere pc f apart = grind arith
 
 -- what is in a place that isn't its own is found by no address
-found-vacant : (pc place : ℕ) (f : Found) → place_of pc ≡ place → ¬ (place_of f.pc ≡ place) → found_at pc f ≡ None
+found-vacant : (pc place : ℕ) (f : KeptInstr) → place_of pc ≡ place → ¬ (place_of f.pc ≡ place) → found_at pc f ≡ None
 found-vacant pc place f here vacant =
     found-elsewhere pc f (λ same. vacant (ap (λ (n : ℕ). place_of n) same ∙ here))
 
 -- what a list gives after one place was set
-get-here : (xs : List Found) (p : ℕ) (f : Found) → p < length xs → slice_get (set xs p f) p ≡ Some f
+get-here : (xs : List KeptInstr) (p : ℕ) (f : KeptInstr) → p < length xs → slice_get (set xs p f) p ≡ Some f
 get-here [] p f within = absurd (omega (arith, within))
 get-here (x ∷ xs) zero f within = refl
 get-here (x ∷ xs) (suc p) f within = get-here xs p f (omega (arith, within))
 
-get-there : (xs : List Found) (p i : ℕ) (f : Found) → ¬ (i ≡ p) → slice_get (set xs p f) i ≡ slice_get xs i
+get-there : (xs : List KeptInstr) (p i : ℕ) (f : KeptInstr) → ¬ (i ≡ p) → slice_get (set xs p f) i ≡ slice_get xs i
 get-there [] p i f apart = refl
 get-there (x ∷ xs) zero zero f apart = absurd (apart refl)
 get-there (x ∷ xs) zero (suc i) f apart = refl
 get-there (x ∷ xs) (suc p) zero f apart = refl
 get-there (x ∷ xs) (suc p) (suc i) f apart = get-there xs p i f (λ same. apart (ap suc same))
 
-get-within : (xs : List Found) (p : ℕ) (f : Found) → slice_get xs p ≡ Some f → p < length xs
+get-within : (xs : List KeptInstr) (p : ℕ) (f : KeptInstr) → slice_get xs p ≡ Some f → p < length xs
 get-within [] p f is = cc
 get-within (x ∷ xs) zero f is = omega arith
 get-within (x ∷ xs) (suc p) f is = let within = get-within xs p f is in omega (arith, within)
 
 -- where what stands is noted, as a place is left
-pub noted-without : (pcs : List ℕ) (first last p : ℕ) (xs : List Found) (f : Found) → p < length xs
+pub noted-without : (pcs : List ℕ) (first last p : ℕ) (xs : List KeptInstr) (f : KeptInstr) → p < length xs
     → ¬ (place_of f.pc ≡ p) → AreNoted pcs first last xs → AreNoted pcs first last (set xs p f)
 noted-without pcs first last p xs f within vacant noted place g is own = by (same_or_not place p)
   where
@@ -61,11 +61,11 @@ noted-without pcs first last p xs f within vacant noted place g is own = by (sam
         let at : Some f ≡ Some g = sym (get-here xs p f within)
         ∙ ap (λ (i : ℕ). slice_get (set xs p f) i) (sym here) ∙ is in
         let same : f ≡ g = cc in
-        absurd (vacant (ap (λ (h : Found). place_of h.pc) same ∙ own ∙ here))
+        absurd (vacant (ap (λ (h : KeptInstr). place_of h.pc) same ∙ own ∙ here))
     by (inr there) = noted place g (sym (get-there xs p place f there) ∙ is) own
 
 -- as the place of the first address is left
-pub noted-next : (pc : ℕ) (pcs : List ℕ) (first last p : ℕ) (xs : List Found) (f : Found) → p < length xs
+pub noted-next : (pc : ℕ) (pcs : List ℕ) (first last p : ℕ) (xs : List KeptInstr) (f : KeptInstr) → p < length xs
     → place_of pc ≡ p → ¬ (place_of f.pc ≡ p) → AreNoted (pc ∷ pcs) first last xs → AreNoted pcs first last (set xs p f)
 noted-next pc pcs first last p xs f within of_pc vacant noted place g is own = by (same_or_not place p)
   where
@@ -78,7 +78,7 @@ noted-next pc pcs first last p xs f within of_pc vacant noted place g is own = b
         let at : Some f ≡ Some g = sym (get-here xs p f within)
         ∙ ap (λ (i : ℕ). slice_get (set xs p f) i) (sym here) ∙ is in
         let same : f ≡ g = cc in
-        absurd (vacant (ap (λ (h : Found). place_of h.pc) same ∙ own ∙ here))
+        absurd (vacant (ap (λ (h : KeptInstr). place_of h.pc) same ∙ own ∙ here))
     by (inr there) =
         let (of_one, low, high) = noted place g (sym (get-there xs p place f there) ∙ is) own in
         (after there of_one, low, high)
@@ -88,7 +88,7 @@ drop-at [] at d within = absurd (omega (arith, within))
 drop-at (x ∷ pcs) zero d within = refl
 drop-at (x ∷ pcs) (suc at) d within = drop-at pcs at d (omega (arith, within))
 
-pub noted-from : (pcs : List ℕ) (at pc first last p : ℕ) (xs : List Found) (f : Found) → at < length pcs
+pub noted-from : (pcs : List ℕ) (at pc first last p : ℕ) (xs : List KeptInstr) (f : KeptInstr) → at < length pcs
     → pc ≡ get_or pcs at pc → p ≡ place_of pc → p < length xs → ¬ (place_of f.pc ≡ p)
     → AreNoted (drop at pcs) first last xs → AreNoted (drop (at + 1) pcs) first last (set xs p f)
 noted-from pcs at pc first last p xs f within is here there vacant noted =
@@ -98,7 +98,7 @@ noted-from pcs at pc first last p xs f within is here there vacant noted =
     (drop-at pcs at pc within ∙ ap (λ (q : ℕ). q ∷ drop (suc at) pcs) (sym is)) noted))
 
 -- as a noted place is filled
-pub noted-filled : (pcs : List ℕ) (first last p : ℕ) (xs : List Found) (f : Found) → p < length xs
+pub noted-filled : (pcs : List ℕ) (first last p : ℕ) (xs : List KeptInstr) (f : KeptInstr) → p < length xs
     → p ≡ place_of f.pc → is_noted (place_of f.pc) pcs ≡ true → first ≤ f.pc → f.pc ≤ last
     → AreNoted pcs first last xs → AreNoted pcs first last (set xs p f)
 noted-filled pcs first last p xs f within there_is of_one low high noted place g is own = by (same_or_not place p)
@@ -109,8 +109,8 @@ noted-filled pcs first last p xs f within there_is of_one low high noted place g
         ∙ ap (λ (i : ℕ). slice_get (set xs p f) i) (sym here) ∙ is in
         let same : f ≡ g = cc in (
           ap (λ (i : ℕ). is_noted i pcs) (here ∙ there_is) ∙ of_one,
-          subst (λ (h : Found). first ≤ h.pc) same low,
-          subst (λ (h : Found). h.pc ≤ last) same high,
+          subst (λ (h : KeptInstr). first ≤ h.pc) same low,
+          subst (λ (h : KeptInstr). h.pc ≤ last) same high,
         )
     by (inr there) = noted place g (sym (get-there xs p place f there) ∙ is) own
 
@@ -137,12 +137,12 @@ pub noted-last : (pcs qs : List ℕ) (b : Bool) (pc : ℕ) → qs ≡ cond b (pc
 noted-last pcs qs b pc is pushed =
     ap (is_noted (place_of pc)) (is ∙ cond-true _ _ _ pushed) ∙ last-noted pcs pc
 
-pub noted-pushed : (pcs : List ℕ) (first last pc : ℕ) (xs : List Found) → AreNoted pcs first last xs
+pub noted-pushed : (pcs : List ℕ) (first last pc : ℕ) (xs : List KeptInstr) → AreNoted pcs first last xs
     → AreNoted (pcs ++ pc ∷ []) first last xs
 noted-pushed pcs first last pc xs noted place g is own =
     let (of_one, low, high) = noted place g is own in (noted-more pcs pc place of_one, low, high)
 
-pub noted-push : (pcs qs : List ℕ) (b : Bool) (first last pc : ℕ) (xs : List Found)
+pub noted-push : (pcs qs : List ℕ) (b : Bool) (first last pc : ℕ) (xs : List KeptInstr)
     → qs ≡ cond b (pcs ++ pc ∷ []) pcs → AreNoted pcs first last xs → AreNoted qs first last xs
 noted-push pcs qs true first last pc xs is noted =
     subst (λ (ps : List ℕ). AreNoted ps first last xs) (sym is) (noted-pushed pcs first last pc xs noted)
@@ -150,13 +150,13 @@ noted-push pcs qs false first last pc xs is noted =
     subst (λ (ps : List ℕ). AreNoted ps first last xs) (sym is) noted
 
 -- as the bounds are apart
-pub noted-wider : (pcs : List ℕ) (first last low high : ℕ) (xs : List Found) → low ≤ first → last ≤ high
+pub noted-wider : (pcs : List ℕ) (first last low high : ℕ) (xs : List KeptInstr) → low ≤ first → last ≤ high
     → AreNoted pcs first last xs → AreNoted pcs low high xs
 noted-wider pcs first last low high xs below above noted place g is own =
     let (of_one, from, to) = noted place g is own in (of_one, omega (arith, below, from), omega (arith, above, to))
 
 -- where nothing is noted, bounds say nothing
-pub none-noted : (pcs : List ℕ) (first last low high : ℕ) (xs : List Found) → pcs ≡ [] → AreNoted pcs first last xs
+pub none-noted : (pcs : List ℕ) (first last low high : ℕ) (xs : List KeptInstr) → pcs ≡ [] → AreNoted pcs first last xs
     → AreNoted pcs low high xs
 none-noted pcs first last low high xs empty noted place g is own =
     let one : is_noted place [] ≡ true
@@ -164,34 +164,34 @@ none-noted pcs first last low high xs empty noted place g is own =
     cc
 
 -- behind the last address none is left
-pub noted-end : (pcs qs : List ℕ) (n first last low high : ℕ) (xs : List Found) → qs ≡ [] → length pcs ≤ n
+pub noted-end : (pcs qs : List ℕ) (n first last low high : ℕ) (xs : List KeptInstr) → qs ≡ [] → length pcs ≤ n
     → AreNoted (drop n pcs) first last xs → AreNoted qs low high xs
 noted-end pcs qs n first last low high xs empty end noted =
     none-noted qs first last low high xs empty
     (subst (λ (ps : List ℕ). AreNoted ps first last xs) (drop_of_length-le pcs end ∙ sym empty) noted)
 
 -- where each place holds the same, it is noted by its own address
-get-replicated : (n i : ℕ) (f g : Found) → slice_get (replicate n f) i ≡ Some g → f ≡ g
+get-replicated : (n i : ℕ) (f g : KeptInstr) → slice_get (replicate n f) i ≡ Some g → f ≡ g
 get-replicated zero i f g is = cc
 get-replicated (suc n) zero f g is = cc
 get-replicated (suc n) (suc i) f g is = get-replicated n i f g is
 
-pub noted-first : (qs : List ℕ) (n : ℕ) (xs : List Found) (f : Found) → qs ≡ f.pc ∷ [] → xs ≡ replicate n f
+pub noted-first : (qs : List ℕ) (n : ℕ) (xs : List KeptInstr) (f : KeptInstr) → qs ≡ f.pc ∷ [] → xs ≡ replicate n f
     → AreNoted qs f.pc f.pc xs
 noted-first qs n xs f one all place g is own =
-    let same : f ≡ g = get-replicated n place f g (ap (λ (ys : List Found). slice_get ys place) (sym all) ∙ is) in (
+    let same : f ≡ g = get-replicated n place f g (ap (λ (ys : List KeptInstr). slice_get ys place) (sym all) ∙ is) in (
       ap (is_noted place) one
-          ∙ cond-true _ _ _ (eq-eqb (place_of f.pc) place (ap (λ (h : Found). place_of h.pc) same ∙ own)),
-      subst (λ (h : Found). f.pc ≤ h.pc) same (omega arith),
-      subst (λ (h : Found). h.pc ≤ f.pc) same (omega arith),
+          ∙ cond-true _ _ _ (eq-eqb (place_of f.pc) place (ap (λ (h : KeptInstr). place_of h.pc) same ∙ own)),
+      subst (λ (h : KeptInstr). f.pc ≤ h.pc) same (omega arith),
+      subst (λ (h : KeptInstr). h.pc ≤ f.pc) same (omega arith),
     )
 
 -- nothing is kept where nothing is noted
-pub none-kept : (code : Code) (pc : ℕ) → code.filled.items ≡ [] → kept code pc ≡ None
-unfolding kept
+pub none-kept : (code : Code) (pc : ℕ) → code.filled.items ≡ [] → kept_instruction code pc ≡ None
+unfolding kept_instruction
 none-kept code pc none = by (slice_get code.places.items (place_of pc)) refl
   where
-    by : (o : Option Found) → slice_get code.places.items (place_of pc) ≡ o
+    by : (o : Option KeptInstr) → slice_get code.places.items (place_of pc) ≡ o
         → option_and_then (found_at pc) o ≡ None
     by None is = refl
     by (Some f) is =
@@ -202,11 +202,11 @@ none-kept code pc none = by (slice_get code.places.items (place_of pc)) refl
         cc)
 
 -- what is kept stands within the bounds
-pub kept-within : (code : Code) (pc : ℕ) (i : Instr) → kept code pc ≡ Some i → (code.first ≤ pc) × (pc ≤ code.last)
-unfolding kept
+pub kept-within : (code : Code) (pc : ℕ) (i : Instr) → kept_instruction code pc ≡ Some i → (code.first ≤ pc) × (pc ≤ code.last)
+unfolding kept_instruction
 kept-within code pc i given = by (slice_get code.places.items (place_of pc)) refl given
   where
-    by : (o : Option Found) → slice_get code.places.items (place_of pc) ≡ o
+    by : (o : Option KeptInstr) → slice_get code.places.items (place_of pc) ≡ o
         → option_and_then (found_at pc) o ≡ Some i → (code.first ≤ pc) × (pc ≤ code.last)
     by None is none = cc
     by (Some f) is found =
@@ -214,75 +214,75 @@ kept-within code pc i given = by (slice_get code.places.items (place_of pc)) ref
         let (of_one, low, high) = code.noted (place_of pc) f is (ap place_of here) in
         (omega (arith, low, here), omega (arith, high, here))
 
-pub apart-below : (code : Code) (a n : ℕ) → a + n ≤ code.first → (q : ℕ) (i : Instr) → kept code q ≡ Some i
+pub apart-below : (code : Code) (a n : ℕ) → a + n ≤ code.first → (q : ℕ) (i : Instr) → kept_instruction code q ≡ Some i
     → (q + 4 ≤ a) ⊎ (a + n ≤ q)
 apart-below code a n below q i given = inr (omega (arith, below, (kept-within code q i given).0))
 
-pub apart-above : (code : Code) (a n : ℕ) → code.last + 4 ≤ a → (q : ℕ) (i : Instr) → kept code q ≡ Some i
+pub apart-above : (code : Code) (a n : ℕ) → code.last + 4 ≤ a → (q : ℕ) (i : Instr) → kept_instruction code q ≡ Some i
     → (q + 4 ≤ a) ⊎ (a + n ≤ q)
 apart-above code a n above q i given = inl (omega (arith, above, (kept-within code q i given).1))
 
-pub kept-here : (old new : Code) (p : ℕ) (f : Found) (q : ℕ) → new.places.items ≡ set old.places.items p f
-    → p < length old.places.items → place_of q ≡ p → kept new q ≡ found_at q f
-unfolding kept
+pub kept-here : (old new : Code) (p : ℕ) (f : KeptInstr) (q : ℕ) → new.places.items ≡ set old.places.items p f
+    → p < length old.places.items → place_of q ≡ p → kept_instruction new q ≡ found_at q f
+unfolding kept_instruction
 kept-here old new p f q is within here =
-    ap (λ (xs : List Found). option_and_then (found_at q) (slice_get xs (place_of q))) is
+    ap (λ (xs : List KeptInstr). option_and_then (found_at q) (slice_get xs (place_of q))) is
     ∙ ap (λ (i : ℕ). option_and_then (found_at q) (slice_get (set old.places.items p f) i)) here
     ∙ ap (option_and_then (found_at q)) (get-here old.places.items p f within)
 
-pub kept-there : (old new : Code) (p : ℕ) (f : Found) (q : ℕ) → new.places.items ≡ set old.places.items p f
-    → ¬ (place_of q ≡ p) → kept new q ≡ kept old q
-unfolding kept
+pub kept-there : (old new : Code) (p : ℕ) (f : KeptInstr) (q : ℕ) → new.places.items ≡ set old.places.items p f
+    → ¬ (place_of q ≡ p) → kept_instruction new q ≡ kept_instruction old q
+unfolding kept_instruction
 kept-there old new p f q is there =
-    ap (λ (xs : List Found). option_and_then (found_at q) (slice_get xs (place_of q))) is
+    ap (λ (xs : List KeptInstr). option_and_then (found_at q) (slice_get xs (place_of q))) is
     ∙ ap (option_and_then (found_at q)) (get-there old.places.items p (place_of q) f there)
 
 -- what is kept after something was found at an address
-pub kept-found : (old new : Code) (p pc : ℕ) (f : Found) → new.places.items ≡ set old.places.items p f
-    → p ≡ place_of pc → length old.places.items ≡ 65536 → f.pc ≡ pc → kept new pc ≡ Some f.instr
+pub kept-found : (old new : Code) (p pc : ℕ) (f : KeptInstr) → new.places.items ≡ set old.places.items p f
+    → p ≡ place_of pc → length old.places.items ≡ 65536 → f.pc ≡ pc → kept_instruction new pc ≡ Some f.instr
 kept-found old new p pc f is here whole at =
     kept-here old new p f pc is (omega (arith, whole, here)) (sym here) ∙ found-same pc f at
 
-pub kept-others : (old new : Code) (p : ℕ) (f : Found) → new.places.items ≡ set old.places.items p f
-    → length old.places.items ≡ 65536 → p < 65536 → (q : ℕ) (i : Instr) → kept new q ≡ Some i
-    → (q ≡ f.pc) ⊎ (kept old q ≡ Some i)
+pub kept-others : (old new : Code) (p : ℕ) (f : KeptInstr) → new.places.items ≡ set old.places.items p f
+    → length old.places.items ≡ 65536 → p < 65536 → (q : ℕ) (i : Instr) → kept_instruction new q ≡ Some i
+    → (q ≡ f.pc) ⊎ (kept_instruction old q ≡ Some i)
 kept-others old new p f is whole within q i given = by (same_or_not (place_of q) p)
   where
-    by : (place_of q ≡ p) ⊎ ¬ (place_of q ≡ p) → (q ≡ f.pc) ⊎ (kept old q ≡ Some i)
+    by : (place_of q ≡ p) ⊎ ¬ (place_of q ≡ p) → (q ≡ f.pc) ⊎ (kept_instruction old q ≡ Some i)
     by (inl here) =
         inl (sym (found-other q f i (sym (kept-here old new p f q is (omega (arith, whole)) here) ∙ given)))
     by (inr there) = inr (sym (kept-there old new p f q is there) ∙ given)
 
 -- what is kept after nothing stands at a place any more
-pub kept-fewer : (old new : Code) (p : ℕ) (f : Found) → new.places.items ≡ set old.places.items p f
+pub kept-fewer : (old new : Code) (p : ℕ) (f : KeptInstr) → new.places.items ≡ set old.places.items p f
     → length old.places.items ≡ 65536 → p < 65536 → ¬ (place_of f.pc ≡ p)
-    → (q : ℕ) (i : Instr) → kept new q ≡ Some i → kept old q ≡ Some i
+    → (q : ℕ) (i : Instr) → kept_instruction new q ≡ Some i → kept_instruction old q ≡ Some i
 kept-fewer old new p f is whole within vacant q i given = by (same_or_not (place_of q) p)
   where
-    by : (place_of q ≡ p) ⊎ ¬ (place_of q ≡ p) → kept old q ≡ Some i
+    by : (place_of q ≡ p) ⊎ ¬ (place_of q ≡ p) → kept_instruction old q ≡ Some i
     by (inl here) =
         let gone = kept-here old new p f q is (omega (arith, whole)) here ∙ found-vacant q p f here vacant in
         cc
     by (inr there) = sym (kept-there old new p f q is there) ∙ given
 
-pub kept-gone : (old new : Code) (p pc : ℕ) (f : Found) → new.places.items ≡ set old.places.items p f
-    → p ≡ place_of pc → length old.places.items ≡ 65536 → ¬ (place_of f.pc ≡ p) → kept new pc ≡ None
+pub kept-gone : (old new : Code) (p pc : ℕ) (f : KeptInstr) → new.places.items ≡ set old.places.items p f
+    → p ≡ place_of pc → length old.places.items ≡ 65536 → ¬ (place_of f.pc ≡ p) → kept_instruction new pc ≡ None
 kept-gone old new p pc f is here whole vacant =
     kept-here old new p f pc is (omega (arith, whole, here)) (sym here) ∙ found-vacant pc p f (sym here) vacant
 
 -- what is kept for an address, from what stands at its place
-pub kept-read : (code : Code) (p pc : ℕ) (f : Found) → f ≡ get_or code.places.items p f → p ≡ place_of pc
-    → kept code pc ≡ found_at pc f
-unfolding kept
+pub kept-read : (code : Code) (p pc : ℕ) (f : KeptInstr) → f ≡ get_or code.places.items p f → p ≡ place_of pc
+    → kept_instruction code pc ≡ found_at pc f
+unfolding kept_instruction
 kept-read code p pc f is here =
     ap (λ (i : ℕ). option_and_then (found_at pc) (slice_get code.places.items i)) (sym here)
     ∙ ap (option_and_then (found_at pc))
     (slice_get_read code.places.items 65536 p f (sym code.whole) (place-below pc p here) is)
 
-pub read-same : (code : Code) (p pc : ℕ) (f : Found) → f ≡ get_or code.places.items p f → p ≡ place_of pc
-    → f.pc ≡ pc → kept code pc ≡ Some f.instr
+pub read-same : (code : Code) (p pc : ℕ) (f : KeptInstr) → f ≡ get_or code.places.items p f → p ≡ place_of pc
+    → f.pc ≡ pc → kept_instruction code pc ≡ Some f.instr
 read-same code p pc f is here at = kept-read code p pc f is here ∙ found-same pc f at
 
-pub read-elsewhere : (code : Code) (p pc : ℕ) (f : Found) → f ≡ get_or code.places.items p f → p ≡ place_of pc
-    → ¬ (f.pc ≡ pc) → kept code pc ≡ None
+pub read-elsewhere : (code : Code) (p pc : ℕ) (f : KeptInstr) → f ≡ get_or code.places.items p f → p ≡ place_of pc
+    → ¬ (f.pc ≡ pc) → kept_instruction code pc ≡ None
 read-elsewhere code p pc f is here apart = kept-read code p pc f is here ∙ found-elsewhere pc f apart

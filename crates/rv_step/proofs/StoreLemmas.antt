@@ -6,9 +6,9 @@ use Rattle.std.specs.Option.{option_and_then, option_map}
 use Rattle.event_costs.specs.declared.event.Branch.{Branch}
 use Rattle.event_costs.specs.declared.event.Touch.{Touch}
 use Rattle.event_costs.specs.declared.event.Touch.TheVariants as touch
-use Rattle.guest_mem.specs.Memory.{Memory, prot_read, prot_write, prot_exec, bytes_of, loaded, may, stored}
+use Rattle.guest_mem.specs.Memory.{Memory, prot_read, prot_write, prot_exec, bytes_of, load_at, may, store_at}
 use Rattle.guest_mem.proofs.Accesses.{elsewhere-stored}
-use Rattle.rv_decode.specs.Decoded.{decoded}
+use Rattle.rv_decode.specs.Decoded.{decode}
 use Rattle.rv_decode.specs.declared.instr.Instr.{Instr}
 use Rattle.rv_decode.specs.declared.instr.Op.{Op}
 use Rattle.rv_decode.specs.declared.instr.Op.TheVariants.{LUI, AUIPC, JAL, JALR, BEQ, BNE, BLT, BGE, BLTU, BGEU, LB, LH}
@@ -17,9 +17,9 @@ use Rattle.rv_decode.specs.declared.instr.Op.TheVariants.{SLLI, SRLI, SRAI, ADD,
 use Rattle.rv_decode.specs.declared.instr.Op.TheVariants.{AND, MUL, MULH, MULHSU, MULHU, DIV, DIVU, REM, REMU, FENCE}
 use Rattle.rv_decode.specs.declared.instr.Op.TheVariants.{ECALL, EBREAK, LR, SC, AMOSWAP, AMOADD, AMOXOR, AMOAND, AMOOR}
 use Rattle.rv_decode.specs.declared.instr.Op.TheVariants.{AMOMIN, AMOMAX, AMOMINU, AMOMAXU}
-use Rattle.rv_step.specs.Code.{IsCodeOf, instruction_at, kept}
+use Rattle.rv_step.specs.Code.{IsCodeOf, instruction_at, kept_instruction}
 use Rattle.rv_step.specs.Effects.{effect_by, effect_of, fetched_effect, step_of, word_effect}
-use Rattle.rv_step.specs.Forms.{State, Outcome, register, address, offset, is_held, retires, faults, misaligned, passes}
+use Rattle.rv_step.specs.Forms.{HartState, Outcome, register, address, offset, is_held, retires, faults, misaligned, passes}
 use Rattle.rv_step.specs.Forms.{computes, jumps, branches, reads, loads, stores, reserves, conditional}
 use Rattle.rv_step.specs.Forms.{stays, stores_held, replaces, swaps}
 use Rattle.rv_step.specs.declared.code.Code.{Code}
@@ -27,41 +27,41 @@ use Rattle.rv_step.specs.declared.stepped.Stepped.TheVariants.{Unknown}
 use Rattle.rv_step.specs.inner.Stored.{IsStoredAt, IsStoredBy, IsStoredIn, may_store}
 
 -- memory stays, or something may be stored and is
-abbrev pub Leaves : Bool → State → Outcome → Type 0
+abbrev pub Leaves : Bool → HartState → Outcome → Type 0
 Leaves may s o = (o.after.memory ≡ s.memory) ⊎ ((may ≡ true) × IsStoredBy o.stepped s.memory o.after.memory)
 
 -- a choice by a test, both of whose sides do so
-either : (may : Bool) (s : State) (b : Bool) (x y : Outcome) → Leaves may s x → Leaves may s y
+either : (may : Bool) (s : HartState) (b : Bool) (x y : Outcome) → Leaves may s x → Leaves may s y
     → Leaves may s (if b then x else y)
 either may s true x y first second = first
 either may s false x y first second = second
 
-passes-leaves : (s : State) → Leaves false s (passes s)
+passes-leaves : (s : HartState) → Leaves false s (passes s)
 unfolding passes retires
 passes-leaves s = inl refl
 
-computes-leaves : (i : Instr) (s : State) (value : ℕ) → Leaves false s (computes i s value)
+computes-leaves : (i : Instr) (s : HartState) (value : ℕ) → Leaves false s (computes i s value)
 unfolding computes retires
 computes-leaves i s value = inl refl
 
-jumps-leaves : (i : Instr) (s : State) (target : ℕ) (b : Branch) → Leaves false s (jumps i s target b)
+jumps-leaves : (i : Instr) (s : HartState) (target : ℕ) (b : Branch) → Leaves false s (jumps i s target b)
 unfolding jumps retires
 jumps-leaves i s target b = either false s (target % 4 == 0) _ (misaligned s) (inl refl) (inl refl)
 
-branches-leaves : (i : Instr) (s : State) (taken : Bool) → Leaves false s (branches i s taken)
+branches-leaves : (i : Instr) (s : HartState) (taken : Bool) → Leaves false s (branches i s taken)
 unfolding branches retires
 branches-leaves i s true = either false s (offset i s % 4 == 0) _ (misaligned s) (inl refl) (inl refl)
 branches-leaves i s false = inl refl
 
-reads-leaves : (i : Instr) (s : State) (h : Option ℕ) (a n : ℕ) (o : Option ℕ) → Leaves false s (reads i s h a n o)
+reads-leaves : (i : Instr) (s : HartState) (h : Option ℕ) (a n : ℕ) (o : Option ℕ) → Leaves false s (reads i s h a n o)
 unfolding retires
 reads-leaves i s h a n None = inl refl
 reads-leaves i s h a n (Some v) = inl refl
 
-loads-leaves : (i : Instr) (s : State) (n : ℕ) (view : ℕ → ℕ) → Leaves false s (loads i s n view)
+loads-leaves : (i : Instr) (s : HartState) (n : ℕ) (view : ℕ → ℕ) → Leaves false s (loads i s n view)
 unfolding loads
 loads-leaves i s n view =
-    reads-leaves i s s.held (address i s) n (option_map view (loaded s.memory prot_read (address i s) n))
+    reads-leaves i s s.held (address i s) n (option_map view (load_at s.memory prot_read (address i s) n))
 
 -- so many bytes are no more than four
 at_most : (n v : ℕ) → n ≤ 4 → length (bytes_of n v) ≤ 4
@@ -71,23 +71,23 @@ at_most n v few = omega (arith, length-bytes n v)
     length-bytes zero v = refl
     length-bytes (suc n) v = ap suc (length-bytes n _)
 
-put_at : (m : Memory) (a n v : ℕ) → n ≤ 4 → IsStoredAt a m (stored m a (bytes_of n v))
+put_at : (m : Memory) (a n v : ℕ) → n ≤ 4 → IsStoredAt a m (store_at m a (bytes_of n v))
 put_at m a n v few = record { bytes = bytes_of n v; few = at_most n v few; stores = refl }
 
-stores-leaves : (i : Instr) (s : State) (n : ℕ) → n ≤ 4 → Leaves true s (stores i s n)
+stores-leaves : (i : Instr) (s : HartState) (n : ℕ) → n ≤ 4 → Leaves true s (stores i s n)
 unfolding stores retires
 stores-leaves i s n few =
     either true s (may s.memory prot_write (address i s) n) _ (faults s)
     (inr (refl, put_at s.memory (address i s) n (register i.rs2 s) few)) (inl refl)
 
-reserves-leaves : (i : Instr) (s : State) → Leaves false s (reserves i s)
+reserves-leaves : (i : Instr) (s : HartState) → Leaves false s (reserves i s)
 unfolding reserves
 reserves-leaves i s =
     let a = register i.rs1 s in
-    either false s (a % 4 == 0) _ (misaligned s) (reads-leaves i s (Some a) a 4 (loaded s.memory prot_read a 4))
+    either false s (a % 4 == 0) _ (misaligned s) (reads-leaves i s (Some a) a 4 (load_at s.memory prot_read a 4))
     (inl refl)
 
-conditional-leaves : (i : Instr) (s : State) (a : ℕ) → Leaves true s (conditional i s a)
+conditional-leaves : (i : Instr) (s : HartState) (a : ℕ) → Leaves true s (conditional i s a)
 unfolding retires
 conditional-leaves i s a =
     either true s (is_held s.held a) _ _
@@ -95,13 +95,13 @@ conditional-leaves i s a =
     (inr (refl, put_at s.memory a 4 (register i.rs2 s) (lit≤ tt))) (inl refl))
     (inl refl)
 
-stores_held-leaves : (i : Instr) (s : State) → Leaves true s (stores_held i s)
+stores_held-leaves : (i : Instr) (s : HartState) → Leaves true s (stores_held i s)
 unfolding stores_held
 stores_held-leaves i s =
     let a = register i.rs1 s in
     either true s (a % 4 == 0) _ (misaligned s) (conditional-leaves i s a) (inl refl)
 
-replaces-leaves : (i : Instr) (s : State) (a : ℕ) (combined : ℕ → ℕ → ℕ) (o : Option ℕ)
+replaces-leaves : (i : Instr) (s : HartState) (a : ℕ) (combined : ℕ → ℕ → ℕ) (o : Option ℕ)
     → Leaves true s (replaces i s a combined o)
 unfolding retires
 replaces-leaves i s a combined None = inl refl
@@ -109,14 +109,14 @@ replaces-leaves i s a combined (Some old) =
     either true s (may s.memory prot_write a 4) _ (faults s)
     (inr (refl, put_at s.memory a 4 (combined old (register i.rs2 s)) (lit≤ tt))) (inl refl)
 
-swaps-leaves : (i : Instr) (s : State) (combined : ℕ → ℕ → ℕ) → Leaves true s (swaps i s combined)
+swaps-leaves : (i : Instr) (s : HartState) (combined : ℕ → ℕ → ℕ) → Leaves true s (swaps i s combined)
 unfolding swaps
 swaps-leaves i s combined =
     let a = register i.rs1 s in
     either true s (a % 4 == 0) _ (misaligned s)
-    (replaces-leaves i s a combined (loaded s.memory prot_read a 4)) (inl refl)
+    (replaces-leaves i s a combined (load_at s.memory prot_read a 4)) (inl refl)
 
-effect_by-leaves : (o : Op) (i : Instr) (s : State) → Leaves (may_store o) s (effect_by o i s)
+effect_by-leaves : (o : Op) (i : Instr) (s : HartState) → Leaves (may_store o) s (effect_by o i s)
 effect_by-leaves LUI i s = computes-leaves i s _
 effect_by-leaves AUIPC i s = computes-leaves i s _
 effect_by-leaves JAL i s = jumps-leaves i s _ _
@@ -177,18 +177,18 @@ effect_by-leaves AMOMAX i s = swaps-leaves i s _
 effect_by-leaves AMOMINU i s = swaps-leaves i s _
 effect_by-leaves AMOMAXU i s = swaps-leaves i s _
 
-pub effect-leaves : (i : Instr) (s : State) → Leaves (may_store i.op) s (effect_of i s)
+pub effect-leaves : (i : Instr) (s : HartState) → Leaves (may_store i.op) s (effect_of i s)
 unfolding effect_of
 effect-leaves i s = effect_by-leaves i.op i s
 
 -- what is kept after it was told apart from a store stands in the memory after it
 pub code-stored : (old new : Code) (m n : Memory) (a : ℕ) → IsStoredAt a m n
-    → ((q : ℕ) (i : Instr) → kept new q ≡ Some i → kept old q ≡ Some i)
-    → ((q : ℕ) (i : Instr) → q < 2 ^ 32 → q % 4 ≡ 0 → kept new q ≡ Some i → (q + 4 ≤ a) ⊎ (a + 4 ≤ q))
+    → ((q : ℕ) (i : Instr) → kept_instruction new q ≡ Some i → kept_instruction old q ≡ Some i)
+    → ((q : ℕ) (i : Instr) → q < 2 ^ 32 → q % 4 ≡ 0 → kept_instruction new q ≡ Some i → (q + 4 ≤ a) ⊎ (a + 4 ≤ q))
     → IsCodeOf old m → IsCodeOf new n
 unfolding instruction_at
 code-stored old new m n a put fewer apart code = λ pc i low at_word is.
-    ap (option_and_then decoded)
+    ap (option_and_then decode)
     (elsewhere-stored m n a put.bytes put.stores prot_exec pc 4
     (clear pc (length put.bytes) put.few (apart pc i low at_word is)))
     ∙ code pc i low at_word (fewer pc i is)
@@ -198,8 +198,8 @@ code-stored old new m n a put fewer apart code = λ pc i low at_word is.
     clear pc n few (inr above) = inr (omega arith)
 
 -- what is kept stands in memory after an instruction, after which it was told of what was stored
-pub kept-on : (old new : Code) (i : Instr) (s : State) (o : Outcome) → o ≡ effect_of i s → IsCodeOf old s.memory
-    → ((q : ℕ) (i : Instr) → kept new q ≡ Some i → kept old q ≡ Some i)
+pub kept-on : (old new : Code) (i : Instr) (s : HartState) (o : Outcome) → o ≡ effect_of i s → IsCodeOf old s.memory
+    → ((q : ℕ) (i : Instr) → kept_instruction new q ≡ Some i → kept_instruction old q ≡ Some i)
     → ((m n : Memory) → IsStoredBy o.stepped m n → IsCodeOf old m → IsCodeOf new n) → IsCodeOf new o.after.memory
 kept-on old new i s o given code fewer told =
     by (subst (λ (q : Outcome). Leaves (may_store i.op) s q) (sym given) (effect-leaves i s))
@@ -210,7 +210,7 @@ kept-on old new i s o given code fewer told =
     by (inr put) = told s.memory o.after.memory put.1 code
 
 -- the same after one that stores nothing
-pub kept-still : (code : Code) (i : Instr) (s : State) (o : Outcome) → o ≡ effect_of i s → may_store i.op ≡ false
+pub kept-still : (code : Code) (i : Instr) (s : HartState) (o : Outcome) → o ≡ effect_of i s → may_store i.op ≡ false
     → IsCodeOf code s.memory → IsCodeOf code o.after.memory
 kept-still code i s o given never stands =
     by (subst (λ (q : Outcome). Leaves (may_store i.op) s q) (sym given) (effect-leaves i s))
@@ -220,22 +220,22 @@ kept-still code i s o given never stands =
     by (inr put) = absurd (true≢false (sym put.0 ∙ never))
 
 -- a step from the instruction at the pc
-pub step-found : (s : State) (i : Instr) → instruction_at s.memory s.regs.pc ≡ Some i → step_of s ≡ effect_of i s
+pub step-found : (s : HartState) (i : Instr) → instruction_at s.memory s.regs.pc ≡ Some i → step_of s ≡ effect_of i s
 unfolding step_of instruction_at
-step-found s i is = fetched (loaded s.memory prot_exec s.regs.pc 4) is
+step-found s i is = fetched (load_at s.memory prot_exec s.regs.pc 4) is
   where
-    fetched : (o : Option ℕ) → option_and_then decoded o ≡ Some i → fetched_effect o s ≡ effect_of i s
+    fetched : (o : Option ℕ) → option_and_then decode o ≡ Some i → fetched_effect o s ≡ effect_of i s
     fetched None none = cc
     fetched (Some word) given = ap (λ (d : Option Instr). word_effect word d s) given
 
-pub step-unknown : (s : State) (word : ℕ) → instruction_at s.memory s.regs.pc ≡ None
-    → loaded s.memory prot_exec s.regs.pc 4 ≡ Some word → step_of s ≡ stays (Unknown word) s
+pub step-unknown : (s : HartState) (word : ℕ) → instruction_at s.memory s.regs.pc ≡ None
+    → load_at s.memory prot_exec s.regs.pc 4 ≡ Some word → step_of s ≡ stays (Unknown word) s
 unfolding step_of instruction_at
 step-unknown s word none fetch =
     ap (λ (o : Option ℕ). fetched_effect o s) fetch
-    ∙ ap (λ (d : Option Instr). word_effect word d s) (ap (option_and_then decoded) (sym fetch) ∙ none)
+    ∙ ap (λ (d : Option Instr). word_effect word d s) (ap (option_and_then decode) (sym fetch) ∙ none)
 
-pub step-faults : (s : State) → loaded s.memory prot_exec s.regs.pc 4 ≡ None → step_of s ≡ faults s
+pub step-faults : (s : HartState) → load_at s.memory prot_exec s.regs.pc 4 ≡ None → step_of s ≡ faults s
 unfolding step_of
 step-faults s none = ap (λ (o : Option ℕ). fetched_effect o s) none
 

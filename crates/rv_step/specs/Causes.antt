@@ -6,35 +6,35 @@ use Rattle.std.specs.List.{list_all}
 use Rattle.std.specs.Option.{option_and_then, option_map_or}
 use Rattle.event_costs.specs.declared.event.Flow.{Flow}
 use Rattle.event_costs.specs.declared.event.Flow.TheVariants.{Plain}
-use Rattle.rv_decode.specs.Decoded.{decoded}
+use Rattle.rv_decode.specs.Decoded.{decode}
 use Rattle.rv_decode.specs.FlowOf.{flow_of}
 use Rattle.rv_decode.specs.declared.instr.Instr.{Instr}
 use Rattle.rv_decode.specs.declared.instr.Op.{Op}
 use Rattle.rv_decode.specs.declared.instr.Op.TheVariants.{JAL, JALR, BEQ, BNE, BLT, BGE, BLTU, BGEU, LB, LH, LW, LBU}
 use Rattle.rv_decode.specs.declared.instr.Op.TheVariants.{LHU, SB, SH, SW, ECALL, EBREAK, LR, SC, AMOSWAP, AMOADD}
 use Rattle.rv_decode.specs.declared.instr.Op.TheVariants.{AMOXOR, AMOAND, AMOOR, AMOMIN, AMOMAX, AMOMINU, AMOMAXU}
-use Rattle.guest_mem.specs.Memory.{prot_read, prot_write, prot_exec, loaded, may}
-use Rattle.rv_step.specs.Forms.{sigtrap, sigbus, sigsegv, State, address, offset, register, is_held}
+use Rattle.guest_mem.specs.Memory.{prot_read, prot_write, prot_exec, load_at, may}
+use Rattle.rv_step.specs.Forms.{sigtrap, sigbus, sigsegv, HartState, address, offset, register, is_held}
 use Rattle.rv_step.specs.Numbers.{signed}
 use Rattle.rv_step.specs.declared.stepped.Stepped.{Stepped}
 use Rattle.rv_step.specs.declared.stepped.Stepped.TheVariants.{Retired, Call, Trap, Unknown}
 
 -- the word at the pc, which has to be executable, and its instruction
-abbrev pub fetched : State → Option ℕ
-fetched s = loaded s.memory prot_exec s.regs.pc 4
+abbrev pub fetched_word : HartState → Option ℕ
+fetched_word s = load_at s.memory prot_exec s.regs.pc 4
 
-abbrev pub instruction : State → Option Instr
-instruction s = option_and_then decoded (fetched s)
+abbrev pub instruction : HartState → Option Instr
+instruction s = option_and_then decode (fetched_word s)
 
 -- the flow of the instruction at the pc
-unfoldable pub flow_at : State → Flow
+unfoldable pub flow_at : HartState → Flow
 flow_at s = option_map_or flow_of (instruction s) Plain
 
 -- where a jump or a taken branch goes
-abbrev pub target_if : Bool → Instr → State → Option ℕ
+abbrev pub target_if : Bool → Instr → HartState → Option ℕ
 target_if taken i s = if taken then Some (offset i s) else None
 
-abbrev pub target_by : Op → Instr → State → Option ℕ
+abbrev pub target_by : Op → Instr → HartState → Option ℕ
 target_by JAL i s = Some (offset i s)
 target_by JALR i s = Some (address i s - address i s % 2)
 target_by BEQ i s = target_if (register i.rs1 s == register i.rs2 s) i s
@@ -46,7 +46,7 @@ target_by BGEU i s = target_if (nat_le (register i.rs2 s) (register i.rs1 s)) i 
 target_by _ i s = None
 
 -- the address of an atomic
-abbrev pub atomic_by : Op → Instr → State → Option ℕ
+abbrev pub atomic_by : Op → Instr → HartState → Option ℕ
 atomic_by LR i s = Some (register i.rs1 s)
 atomic_by SC i s = Some (register i.rs1 s)
 atomic_by AMOSWAP i s = Some (register i.rs1 s)
@@ -76,7 +76,7 @@ abbrev pub amo_accesses : ℕ → List Access
 amo_accesses a = reading a 4 ∷ writing a 4 ∷ []
 
 -- what an instruction needs of memory; an SC whose address isn't held needs nothing
-abbrev pub accesses_by : Op → Instr → State → List Access
+abbrev pub accesses_by : Op → Instr → HartState → List Access
 accesses_by LB i s = reading (address i s) 1 ∷ []
 accesses_by LH i s = reading (address i s) 2 ∷ []
 accesses_by LW i s = reading (address i s) 4 ∷ []
@@ -98,7 +98,7 @@ accesses_by AMOMINU i s = amo_accesses (register i.rs1 s)
 accesses_by AMOMAXU i s = amo_accesses (register i.rs1 s)
 accesses_by _ i s = []
 
-abbrev pub is_allowed : State → Access → Bool
+abbrev pub is_allowed : HartState → Access → Bool
 is_allowed s access = may s.memory access.permission access.from access.bytes
 
 -- whether an address, where there is one, is no multiple of 4
@@ -114,7 +114,7 @@ is_ebreak EBREAK = true
 is_ebreak _ = false
 
 -- the answer to an instruction that doesn't retire, by the first cause
-abbrev pub ending_by : Op → Instr → State → Option Stepped
+abbrev pub ending_by : Op → Instr → HartState → Option Stepped
 ending_by o i s =
     if is_ecall o then Some Call
     else (if is_ebreak o then Some (Trap sigtrap)
@@ -123,17 +123,17 @@ ending_by o i s =
     else (if list_all (is_allowed s) (accesses_by o i s) then None
     else Some (Trap sigsegv)))))
 
-abbrev pub word_ending : ℕ → Option Instr → State → Option Stepped
+abbrev pub word_ending : ℕ → Option Instr → HartState → Option Stepped
 word_ending word None s = Some (Unknown word)
 word_ending word (Some i) s = ending_by i.op i s
 
-abbrev pub fetched_ending : Option ℕ → State → Option Stepped
+abbrev pub fetched_ending : Option ℕ → HartState → Option Stepped
 fetched_ending None s = Some (Trap sigsegv)
-fetched_ending (Some word) s = word_ending word (decoded word) s
+fetched_ending (Some word) s = word_ending word (decode word) s
 
 -- the same for a step: a fetch that isn't allowed comes first, and then an unknown word
-unfoldable pub ending_of : State → Option Stepped
-ending_of s = fetched_ending (fetched s) s
+unfoldable pub ending_of : HartState → Option Stepped
+ending_of s = fetched_ending (fetched_word s) s
 
 -- an answer other than that an instruction retired
 abbrev pub ending : Stepped → Option Stepped

@@ -2,7 +2,7 @@
 use Rattle.std.specs.Prelude.{ℕ, ◌+◌, ◌-◌, ◌%◌, ◌^◌, ◌==◌, not, Option, Some, None, nat_lt, nat_le, int_lt, int_le, min}
 use Rattle.std.specs.Prelude.{max, bit_and, bit_or, bit_xor}
 use Rattle.event_costs.specs.declared.event.Branch.TheVariants as branch
-use Rattle.rv_decode.specs.Decoded.{decoded}
+use Rattle.rv_decode.specs.Decoded.{decode}
 use Rattle.rv_decode.specs.declared.instr.Instr.{Instr}
 use Rattle.rv_decode.specs.declared.instr.Op.{Op}
 use Rattle.rv_decode.specs.declared.instr.Op.TheVariants.{LUI, AUIPC, JAL, JALR, BEQ, BNE, BLT, BGE, BLTU, BGEU, LB, LH}
@@ -11,8 +11,8 @@ use Rattle.rv_decode.specs.declared.instr.Op.TheVariants.{SLLI, SRLI, SRAI, ADD,
 use Rattle.rv_decode.specs.declared.instr.Op.TheVariants.{AND, MUL, MULH, MULHSU, MULHU, DIV, DIVU, REM, REMU, FENCE}
 use Rattle.rv_decode.specs.declared.instr.Op.TheVariants.{ECALL, EBREAK, LR, SC, AMOSWAP, AMOADD, AMOXOR, AMOAND, AMOOR}
 use Rattle.rv_decode.specs.declared.instr.Op.TheVariants.{AMOMIN, AMOMAX, AMOMINU, AMOMAXU}
-use Rattle.guest_mem.specs.Memory.{prot_exec, loaded}
-use Rattle.rv_step.specs.Forms.{State, Outcome, register, immediate, address, offset, stays, faults, breaks, passes}
+use Rattle.guest_mem.specs.Memory.{prot_exec, load_at}
+use Rattle.rv_step.specs.Forms.{HartState, Outcome, register, immediate, address, offset, stays, faults, breaks, passes}
 use Rattle.rv_step.specs.Forms.{computes, jumps, branches, loads, stores, reserves, stores_held, swaps}
 use Rattle.rv_step.specs.Numbers.{signed, extended, flag, difference, shifted_left, shifted_right, shifted_right_signed}
 use Rattle.rv_step.specs.Numbers.{product, high_signed, high_mixed, high_unsigned, quotient_signed, quotient_unsigned}
@@ -20,13 +20,13 @@ use Rattle.rv_step.specs.Numbers.{remainder_signed, remainder_unsigned, least_si
 use Rattle.rv_step.specs.declared.stepped.Stepped.TheVariants.{Call, Unknown}
 
 -- the sources
-abbrev pub rs1 : Instr → State → ℕ
+abbrev pub rs1 : Instr → HartState → ℕ
 rs1 i s = register i.rs1 s
 
-abbrev pub rs2 : Instr → State → ℕ
+abbrev pub rs2 : Instr → HartState → ℕ
 rs2 i s = register i.rs2 s
 
-abbrev pub effect_by : Op → Instr → State → Outcome
+abbrev pub effect_by : Op → Instr → HartState → Outcome
 effect_by LUI i s = computes i s (immediate i)
 effect_by AUIPC i s = computes i s (offset i s)
 effect_by JAL i s = jumps i s (offset i s) branch.Nothing
@@ -88,19 +88,19 @@ effect_by AMOMINU i s = swaps i s min
 effect_by AMOMAXU i s = swaps i s max
 
 -- the effect of an instruction
-unfoldable pub effect_of : Instr → State → Outcome
+unfoldable pub effect_of : Instr → HartState → Outcome
 effect_of i s = effect_by i.op i s
 
 -- the effect of a fetched word
-abbrev pub word_effect : ℕ → Option Instr → State → Outcome
+abbrev pub word_effect : ℕ → Option Instr → HartState → Outcome
 word_effect word None s = stays (Unknown word) s
 word_effect word (Some i) s = effect_of i s
 
 -- the effect of what the fetch gave
-abbrev pub fetched_effect : Option ℕ → State → Outcome
+abbrev pub fetched_effect : Option ℕ → HartState → Outcome
 fetched_effect None s = faults s
-fetched_effect (Some word) s = word_effect word (decoded word) s
+fetched_effect (Some word) s = word_effect word (decode word) s
 
 -- one step: the word at the pc, which has to be executable, is decoded and takes effect
-unfoldable pub step_of : State → Outcome
-step_of s = fetched_effect (loaded s.memory prot_exec s.regs.pc 4) s
+unfoldable pub step_of : HartState → Outcome
+step_of s = fetched_effect (load_at s.memory prot_exec s.regs.pc 4) s

@@ -11,13 +11,13 @@ use Rattle.event_costs.specs.declared.event.Branch.{Branch}
 use Rattle.event_costs.specs.declared.event.Branch.TheVariants as branch
 use Rattle.rv_decode.specs.FlowOf.{flow_of}
 use Rattle.rv_decode.specs.declared.instr.Instr.{Instr}
-use Rattle.guest_mem.specs.Memory.{Memory, prot_read, prot_write, may, loaded, stored, bytes_of}
+use Rattle.guest_mem.specs.Memory.{Memory, prot_read, prot_write, may, load_at, store_at, bytes_of}
 use Rattle.rv_step.specs.Numbers.{wrapped}
 use Rattle.rv_step.specs.declared.stepped.Stepped.{Stepped}
 use Rattle.rv_step.specs.declared.stepped.Stepped.TheVariants.{Retired, Trap}
 
 -- what instructions read and change. The reservation is the address that LR took, if one is held
-pub record State : Type 0 where
+pub record HartState : Type 0 where
   pub regs : Regs
   pub memory : Memory
   pub held : Option ℕ
@@ -25,17 +25,17 @@ pub record State : Type 0 where
 -- a step's answer, and the state after it
 pub record Outcome : Type 0 where
   pub stepped : Stepped
-  pub after : State
+  pub after : HartState
 
-abbrev pub state : Regs → Memory → Option ℕ → State
-state r m h = record { regs = r; memory = m; held = h }
+abbrev pub hart_state : Regs → Memory → Option ℕ → HartState
+hart_state r m h = record { regs = r; memory = m; held = h }
 
 abbrev pub outcome : Stepped → Regs → Memory → Option ℕ → Outcome
-outcome answer r m h = record { stepped = answer; after = state r m h }
+outcome answer r m h = record { stepped = answer; after = hart_state r m h }
 
 -- ---- registers
 
-abbrev pub register : ℕ → State → ℕ
+abbrev pub register : ℕ → HartState → ℕ
 register k s = slice_index s.regs.x k
 
 -- the immediate with its sign extended, as 32 bits
@@ -43,10 +43,10 @@ abbrev pub immediate : Instr → ℕ
 immediate i = wrapped i.imm
 
 -- where a load or a store, a jump by register and a jump by offset lead
-abbrev pub address : Instr → State → ℕ
+abbrev pub address : Instr → HartState → ℕ
 address i s = (register i.rs1 s + immediate i) % 2 ^ 32
 
-abbrev pub offset : Instr → State → ℕ
+abbrev pub offset : Instr → HartState → ℕ
 offset i s = (s.regs.pc + immediate i) % 2 ^ 32
 
 -- the address of the next instruction in memory
@@ -62,21 +62,21 @@ abbrev pub set : List ℕ → ℕ → ℕ → List ℕ
 set x k value = if k == 0 then x else slice_set x k value
 
 -- rd written, and control at another pc
-abbrev pub written : Regs → ℕ → ℕ → ℕ → Regs
-written r rd value pc = record { pc = pc; x = set r.x rd value }
+abbrev pub with_register : Regs → ℕ → ℕ → ℕ → Regs
+with_register r rd value pc = record { pc = pc; x = set r.x rd value }
 
 -- ---- answers
 
 -- what a retired instruction did, from one state to the next
-abbrev pub done : Regs → Regs → Flow → Touch → Branch → Stepped
-done old new f t b =
+abbrev pub retirement : Regs → Regs → Flow → Touch → Branch → Stepped
+retirement old new f t b =
     Retired (record { pc = old.pc; next = new.pc; sp = slice_index new.x 2; flow = f; touch = t; branch = b })
 
-unfoldable pub retires : State → Flow → Touch → Branch → State → Outcome
-retires s f t b new = record { stepped = done s.regs new.regs f t b; after = new }
+unfoldable pub retires : HartState → Flow → Touch → Branch → HartState → Outcome
+retires s f t b new = record { stepped = retirement s.regs new.regs f t b; after = new }
 
 -- nothing changes
-abbrev pub stays : Stepped → State → Outcome
+abbrev pub stays : Stepped → HartState → Outcome
 stays answer s = record { stepped = answer; after = s }
 
 -- the signals of the traps, under their names and with their numbers in Linux's asm-generic/signal.h
@@ -90,70 +90,70 @@ abbrev pub sigsegv : ℕ
 sigsegv = 11
 
 -- traps
-abbrev pub faults : State → Outcome
+abbrev pub faults : HartState → Outcome
 faults s = stays (Trap sigsegv) s
 
-abbrev pub breaks : State → Outcome
+abbrev pub breaks : HartState → Outcome
 breaks s = stays (Trap sigtrap) s
 
-abbrev pub misaligned : State → Outcome
+abbrev pub misaligned : HartState → Outcome
 misaligned s = stays (Trap sigbus) s
 
 -- ---- forms
 
 -- an instruction without effect
-unfoldable pub passes : State → Outcome
-passes s = retires s Plain touch.Nothing branch.Nothing (state (at s.regs (following s.regs)) s.memory s.held)
+unfoldable pub passes : HartState → Outcome
+passes s = retires s Plain touch.Nothing branch.Nothing (hart_state (at s.regs (following s.regs)) s.memory s.held)
 
 -- rd gets a value
-unfoldable pub computes : Instr → State → ℕ → Outcome
+unfoldable pub computes : Instr → HartState → ℕ → Outcome
 computes i s value =
-    retires s Plain touch.Nothing branch.Nothing (state (written s.regs i.rd value (following s.regs)) s.memory s.held)
+    retires s Plain touch.Nothing branch.Nothing (hart_state (with_register s.regs i.rd value (following s.regs)) s.memory s.held)
 
 -- rd gets the address of the next instruction, and control goes to the target
-unfoldable pub jumps : Instr → State → ℕ → Branch → Outcome
+unfoldable pub jumps : Instr → HartState → ℕ → Branch → Outcome
 jumps i s target b =
     if target % 4 == 0
-    then retires s (flow_of i) touch.Nothing b (state (written s.regs i.rd (following s.regs) target) s.memory s.held)
+    then retires s (flow_of i) touch.Nothing b (hart_state (with_register s.regs i.rd (following s.regs) target) s.memory s.held)
     else misaligned s
 
 -- control goes to the target where the branch is taken
-unfoldable pub branches : Instr → State → Bool → Outcome
+unfoldable pub branches : Instr → HartState → Bool → Outcome
 branches i s taken =
     if taken
     then (if offset i s % 4 == 0
-    then retires s Plain touch.Nothing (branch.Cond taken) (state (at s.regs (offset i s)) s.memory s.held)
+    then retires s Plain touch.Nothing (branch.Cond taken) (hart_state (at s.regs (offset i s)) s.memory s.held)
     else misaligned s)
-    else retires s Plain touch.Nothing (branch.Cond taken) (state (at s.regs (following s.regs)) s.memory s.held)
+    else retires s Plain touch.Nothing (branch.Cond taken) (hart_state (at s.regs (following s.regs)) s.memory s.held)
 
 -- rd gets what n bytes gave, where they may be read; then this reservation is held
-abbrev pub reads : Instr → State → Option ℕ → ℕ → ℕ → Option ℕ → Outcome
+abbrev pub reads : Instr → HartState → Option ℕ → ℕ → ℕ → Option ℕ → Outcome
 reads i s h a n None = faults s
 reads i s h a n (Some value) =
-    retires s Plain (touch.Read a n) branch.Nothing (state (written s.regs i.rd value (following s.regs)) s.memory h)
+    retires s Plain (touch.Read a n) branch.Nothing (hart_state (with_register s.regs i.rd value (following s.regs)) s.memory h)
 
 -- a load of n bytes, with a view of their number
-unfoldable pub loads : Instr → State → ℕ → (ℕ → ℕ) → Outcome
-loads i s n view = reads i s s.held (address i s) n (option_map view (loaded s.memory prot_read (address i s) n))
+unfoldable pub loads : Instr → HartState → ℕ → (ℕ → ℕ) → Outcome
+loads i s n view = reads i s s.held (address i s) n (option_map view (load_at s.memory prot_read (address i s) n))
 
 -- a store of the low n bytes of rs2
-unfoldable pub stores : Instr → State → ℕ → Outcome
+unfoldable pub stores : Instr → HartState → ℕ → Outcome
 stores i s n =
     if may s.memory prot_write (address i s) n
     then retires s Plain (touch.Write (address i s) n) branch.Nothing
-    (state (at s.regs (following s.regs)) (stored s.memory (address i s) (bytes_of n (register i.rs2 s))) s.held)
+    (hart_state (at s.regs (following s.regs)) (store_at s.memory (address i s) (bytes_of n (register i.rs2 s))) s.held)
     else faults s
 
 -- ---- atomics, on the word at the address in rs1
 
-abbrev pub aligned : ℕ → State → Outcome → Outcome
+abbrev pub aligned : ℕ → HartState → Outcome → Outcome
 aligned a s effect = if a % 4 == 0 then effect else misaligned s
 
 -- load reserved: the address is held
-unfoldable pub reserves : Instr → State → Outcome
+unfoldable pub reserves : Instr → HartState → Outcome
 reserves i s =
     aligned (register i.rs1 s) s
-    (reads i s (Some (register i.rs1 s)) (register i.rs1 s) 4 (loaded s.memory prot_read (register i.rs1 s) 4))
+    (reads i s (Some (register i.rs1 s)) (register i.rs1 s) 4 (load_at s.memory prot_read (register i.rs1 s) 4))
 
 -- whether the reservation is for this address
 abbrev pub is_held : Option ℕ → ℕ → Bool
@@ -161,29 +161,29 @@ is_held h a = option_map_or (λ b. b == a) h false
 
 -- store conditional: where the address is held the word is stored and rd gets 0, else rd gets 1 without an access.
 -- Either way no reservation is left
-abbrev pub conditional : Instr → State → ℕ → Outcome
+abbrev pub conditional : Instr → HartState → ℕ → Outcome
 conditional i s a =
     if is_held s.held a
     then (if may s.memory prot_write a 4
     then retires s Plain (touch.Write a 4) branch.Nothing
-    (state (written s.regs i.rd 0 (following s.regs)) (stored s.memory a (bytes_of 4 (register i.rs2 s))) None)
+    (hart_state (with_register s.regs i.rd 0 (following s.regs)) (store_at s.memory a (bytes_of 4 (register i.rs2 s))) None)
     else faults s)
-    else retires s Plain touch.Nothing branch.Nothing (state (written s.regs i.rd 1 (following s.regs)) s.memory None)
+    else retires s Plain touch.Nothing branch.Nothing (hart_state (with_register s.regs i.rd 1 (following s.regs)) s.memory None)
 
-unfoldable pub stores_held : Instr → State → Outcome
+unfoldable pub stores_held : Instr → HartState → Outcome
 stores_held i s = aligned (register i.rs1 s) s (conditional i s (register i.rs1 s))
 
 -- the word is replaced by what it and rs2 give, and rd gets the old one
-abbrev pub replaces : Instr → State → ℕ → (ℕ → ℕ → ℕ) → Option ℕ → Outcome
+abbrev pub replaces : Instr → HartState → ℕ → (ℕ → ℕ → ℕ) → Option ℕ → Outcome
 replaces i s a combined None = faults s
 replaces i s a combined (Some old) =
     if may s.memory prot_write a 4
     then retires s Plain (touch.Read a 4) branch.Nothing
-    (state (written s.regs i.rd old (following s.regs))
-    (stored s.memory a (bytes_of 4 (combined old (register i.rs2 s)))) s.held)
+    (hart_state (with_register s.regs i.rd old (following s.regs))
+    (store_at s.memory a (bytes_of 4 (combined old (register i.rs2 s)))) s.held)
     else faults s
 
-unfoldable pub swaps : Instr → State → (ℕ → ℕ → ℕ) → Outcome
+unfoldable pub swaps : Instr → HartState → (ℕ → ℕ → ℕ) → Outcome
 swaps i s combined =
     aligned (register i.rs1 s) s
-    (replaces i s (register i.rs1 s) combined (loaded s.memory prot_read (register i.rs1 s) 4))
+    (replaces i s (register i.rs1 s) combined (load_at s.memory prot_read (register i.rs1 s) 4))

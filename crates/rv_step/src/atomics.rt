@@ -2,7 +2,7 @@
 
 ghost use Rattle.std.specs.Prelude.{◌≡◌, ◌%◌, ◌+◌, ◌^◌, ℕ, Option};
 ghost use Rattle.rv_decode.specs.Encoded.{HasRegisters};
-ghost use Rattle.rv_step.specs.Forms.{is_held, outcome, reserves, state, stores_held, swaps};
+ghost use Rattle.rv_step.specs.Forms.{is_held, outcome, reserves, hart_state, stores_held, swaps};
 ghost use Rattle.rv_step.specs.inner.Combined.{combined_of};
 
 use crate::arithmetic::signed;
@@ -22,7 +22,7 @@ pub fn load_reserved(
     instr: Instr,
 ) -> Stepped
     requires { HasRegisters instr }
-    ensures { outcome result regs.new mem.now held.new ≡ reserves instr (state regs.old mem.now held.old) }
+    ensures { outcome result regs.new mem.now held.new ≡ reserves instr (hart_state regs.old mem.now held.old) }
 {
     let address = read(regs, instr.rs1);
     if address % 4 != 0 {
@@ -58,7 +58,7 @@ pub fn store_conditional(
     instr: Instr,
 ) -> Stepped
     requires { HasRegisters instr }
-    ensures { outcome result regs.new mem.new held.new ≡ stores_held instr (state regs.old mem.old held.old) }
+    ensures { outcome result regs.new mem.new held.new ≡ stores_held instr (hart_state regs.old mem.old held.old) }
 {
     let address = read(regs, instr.rs1);
     if address % 4 != 0 {
@@ -112,7 +112,7 @@ fn combined(op: Op, old: u32, word: u32) -> u32
 #[tactic(auto, unfolding(crate::specs::Forms::swaps, crate::specs::Forms::retires))]
 pub fn swap(regs: &mut Regs, mem: &mut GuestMem, instr: Instr) -> Stepped
     requires { HasRegisters instr }
-    ensures { (h : Option ℕ) → outcome result regs.new mem.new h ≡ swaps instr (state regs.old mem.old h)
+    ensures { (h : Option ℕ) → outcome result regs.new mem.new h ≡ swaps instr (hart_state regs.old mem.old h)
         (combined_of instr.op) }
 {
     let address = read(regs, instr.rs1);

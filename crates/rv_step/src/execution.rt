@@ -3,14 +3,14 @@
 ghost use Rattle.std.specs.Prelude.{◌≡◌, ◌≤◌, ◌+◌, ◌-◌, ◌%◌, ◌^◌, ℕ, Some, slice_index};
 ghost use Rattle.std.specs.Prelude.{IfSome};
 ghost use Rattle.std.specs.Result.{result_ok};
-ghost use Rattle.guest_mem.specs.Memory.{Memory, prot_exec, loaded};
+ghost use Rattle.guest_mem.specs.Memory.{Memory, prot_exec, load_at};
 ghost use Rattle.rv_decode.specs.declared.instr.Instr.{Instr as InstrValue};
 ghost use Rattle.rv_decode.specs.Encoded.{HasRegisters};
 ghost use Rattle.rv_step.specs.Causes.{ending, ending_of, flow_at};
-ghost use Rattle.rv_step.specs.Code.{IsCodeOf, instruction_at, kept};
+ghost use Rattle.rv_step.specs.Code.{IsCodeOf, instruction_at, kept_instruction};
 ghost use Rattle.rv_step.specs.inner.Stored.{IsStoredBy, may_store};
 ghost use Rattle.rv_step.specs.Effects.{effect_of, step_of};
-ghost use Rattle.rv_step.specs.Forms.{outcome, state};
+ghost use Rattle.rv_step.specs.Forms.{outcome, hart_state};
 ghost use Rattle.rv_step.specs.Promises.{IfRetired, IsWithin, UnlessRetired};
 
 use crate::arithmetic::signed;
@@ -31,7 +31,7 @@ use rv_decode::{Instr, Op, decode};
 #[tactic(auto, unfolding(crate::specs::Effects::effect_of))]
 fn execute(regs: &mut Regs, mem: &mut GuestMem, held: &mut Option<u32>, instr: Instr) -> Stepped
     requires { HasRegisters instr }
-    ensures { outcome result regs.new mem.new held.new ≡ effect_of instr (state regs.old mem.old held.old) }
+    ensures { outcome result regs.new mem.new held.new ≡ effect_of instr (hart_state regs.old mem.old held.old) }
 {
     let a = read(regs, instr.rs1);
     let b = read(regs, instr.rs2);
@@ -104,7 +104,7 @@ fn execute(regs: &mut Regs, mem: &mut GuestMem, held: &mut Option<u32>, instr: I
 #[inline(always)]
 #[tactic(auto, unfolding(crate::specs::Effects::step_of))]
 fn execute_next(regs: &mut Regs, mem: &mut GuestMem, held: &mut Option<u32>) -> Stepped
-    ensures { outcome result regs.new mem.new held.new ≡ step_of (state regs.old mem.old held.old) }
+    ensures { outcome result regs.new mem.new held.new ≡ step_of (hart_state regs.old mem.old held.old) }
 {
     let Ok(word) = mem.fetch(regs.pc) else {
         return Stepped::Trap(SIGSEGV);
@@ -124,18 +124,18 @@ fn instruction_at(mem: &GuestMem, code: &mut Code, pc: u32) -> Option<Instr>
     ensures registers { IfSome result HasRegisters }
     ensures code { IsCodeOf code.new mem.now }
 {
-    if let Some(instr) = code.kept(pc) {
+    if let Some(instr) = code.kept_instruction(pc) {
         return Some(instr);
     }
     code.find(mem, pc);
-    code.kept(pc)
+    code.kept_instruction(pc)
 }
 
 /// The answer where there is no instruction at the pc: the word there is none, or may not be executed.
 #[cold]
 #[inline(never)]
 fn word_at(mem: &GuestMem, pc: u32) -> Result<u32, Access>
-    ensures { result_ok result ≡ loaded mem.now prot_exec pc 4 }
+    ensures { result_ok result ≡ load_at mem.now prot_exec pc 4 }
 {
     mem.fetch(pc)
 }
@@ -156,7 +156,7 @@ fn may_store(op: Op) -> bool
 /// What stood where an instruction has stored isn't kept any more.
 #[inline(always)]
 fn forget_stored(code: &mut Code, stepped: &Stepped)
-    ensures fewer { (q : ℕ) (i : InstrValue) → kept code.new q ≡ Some i → kept code.old q ≡ Some i }
+    ensures fewer { (q : ℕ) (i : InstrValue) → kept_instruction code.new q ≡ Some i → kept_instruction code.old q ≡ Some i }
     ensures stored { (m n : Memory) → IsStoredBy stepped.now m n → IsCodeOf code.old m → IsCodeOf code.new n }
 {
     if let Stepped::Retired(done) = stepped {
@@ -178,7 +178,7 @@ fn execute_kept(
 ) -> Stepped
     requires aligned { regs.old.pc % 4 ≡ 0 }
     requires code { IsCodeOf code.old mem.old }
-    ensures outcome { outcome result regs.new mem.new held.new ≡ step_of (state regs.old mem.old held.old) }
+    ensures outcome { outcome result regs.new mem.new held.new ≡ step_of (hart_state regs.old mem.old held.old) }
     ensures code { IsCodeOf code.new mem.new }
 {
     let pc = regs.pc;
@@ -202,9 +202,9 @@ pub fn step(regs: &mut Regs, mem: &mut GuestMem, held: &mut Option<u32>) -> Step
     requires aligned { regs.old.pc % 4 ≡ 0 }
     requires zero { slice_index regs.old.x 0 ≡ 0 }
     // The answer and all that it leaves are those of the instruction's row.
-    ensures outcome { outcome result regs.new mem.new held.new ≡ step_of (state regs.old mem.old held.old) }
+    ensures outcome { outcome result regs.new mem.new held.new ≡ step_of (hart_state regs.old mem.old held.old) }
     // It retires unless the table of causes has another answer for it.
-    ensures cause { ending result ≡ ending_of (state regs.old mem.old held.old) }
+    ensures cause { ending result ≡ ending_of (hart_state regs.old mem.old held.old) }
 
     // Nothing changes unless the instruction retires.
     ensures registers_stay { UnlessRetired result (regs.new ≡ regs.old) }
@@ -219,7 +219,7 @@ pub fn step(regs: &mut Regs, mem: &mut GuestMem, held: &mut Option<u32>) -> Step
     ensures pc { IfRetired result (λ done. done.pc ≡ regs.old.pc) }
     ensures next { IfRetired result (λ done. done.next ≡ regs.new.pc) }
     ensures stack_pointer { IfRetired result (λ done. done.sp ≡ slice_index regs.new.x 2) }
-    ensures flow { IfRetired result (λ done. done.flow ≡ flow_at (state regs.old mem.old held.old)) }
+    ensures flow { IfRetired result (λ done. done.flow ≡ flow_at (hart_state regs.old mem.old held.old)) }
     // Its word and its data lie in the address space.
     ensures word_within { IfRetired result (λ done. done.pc + 4 ≤ 2 ^ 32) }
     ensures data_within { IfRetired result (λ done. IsWithin done.touch) }
@@ -240,9 +240,9 @@ pub fn step_kept(
     requires code { IsCodeOf code.old mem.old }
     ensures code { IsCodeOf code.new mem.new }
     // The answer and all that it leaves are those of the instruction's row.
-    ensures outcome { outcome result regs.new mem.new held.new ≡ step_of (state regs.old mem.old held.old) }
+    ensures outcome { outcome result regs.new mem.new held.new ≡ step_of (hart_state regs.old mem.old held.old) }
     // It retires unless the table of causes has another answer for it.
-    ensures cause { ending result ≡ ending_of (state regs.old mem.old held.old) }
+    ensures cause { ending result ≡ ending_of (hart_state regs.old mem.old held.old) }
 
     // Nothing changes unless the instruction retires.
     ensures registers_stay { UnlessRetired result (regs.new ≡ regs.old) }
@@ -257,7 +257,7 @@ pub fn step_kept(
     ensures pc { IfRetired result (λ done. done.pc ≡ regs.old.pc) }
     ensures next { IfRetired result (λ done. done.next ≡ regs.new.pc) }
     ensures stack_pointer { IfRetired result (λ done. done.sp ≡ slice_index regs.new.x 2) }
-    ensures flow { IfRetired result (λ done. done.flow ≡ flow_at (state regs.old mem.old held.old)) }
+    ensures flow { IfRetired result (λ done. done.flow ≡ flow_at (hart_state regs.old mem.old held.old)) }
     // Its word and its data lie in the address space.
     ensures word_within { IfRetired result (λ done. done.pc + 4 ≤ 2 ^ 32) }
     ensures data_within { IfRetired result (λ done. IsWithin done.touch) }

@@ -3,7 +3,7 @@
 ghost use Rattle.std.specs.Prelude.{◌≡◌, ◌<◌, ◌%◌, ◌+◌, ◌-◌, ◌^◌, ℕ, Option};
 ghost use Rattle.guest_mem.specs.Memory.{Memory};
 ghost use Rattle.rv_decode.specs.Encoded.{HasRegisters};
-ghost use Rattle.rv_step.specs.Forms.{address, branches, jumps, outcome, state};
+ghost use Rattle.rv_step.specs.Forms.{address, branches, jumps, outcome, hart_state};
 
 use crate::registers::{address, following, immediate, retire, write};
 use crate::stepped::{SIGBUS, Stepped};
@@ -16,7 +16,7 @@ use rv_decode::{Instr, flow};
 pub fn jump(regs: &mut Regs, instr: Instr, target: u32, branch: Branch) -> Stepped
     requires { HasRegisters instr }
     ensures { (m : Memory) (h : Option ℕ) → outcome result regs.new m h
-        ≡ jumps instr (state regs.old m h) target branch }
+        ≡ jumps instr (hart_state regs.old m h) target branch }
 {
     if target % 4 != 0 {
         return Stepped::Trap(SIGBUS);
@@ -30,7 +30,7 @@ pub fn jump(regs: &mut Regs, instr: Instr, target: u32, branch: Branch) -> Stepp
 #[inline(always)]
 pub fn jump_by_register(regs: &mut Regs, instr: Instr) -> Stepped
     requires { HasRegisters instr }
-    ensures { (m : Memory) (h : Option ℕ) → let s = state regs.old m h in
+    ensures { (m : Memory) (h : Option ℕ) → let s = hart_state regs.old m h in
         outcome result regs.new m h ≡ jumps instr s (address instr s - address instr s % 2) Branch.Indirect }
 {
     let target = address(regs, instr);
@@ -41,7 +41,7 @@ pub fn jump_by_register(regs: &mut Regs, instr: Instr) -> Stepped
 #[inline(always)]
 #[tactic(auto, unfolding(crate::specs::Forms::branches, crate::specs::Forms::retires))]
 pub fn branch(regs: &mut Regs, instr: Instr, taken: bool) -> Stepped
-    ensures { (m : Memory) (h : Option ℕ) → outcome result regs.new m h ≡ branches instr (state regs.old m h) taken }
+    ensures { (m : Memory) (h : Option ℕ) → outcome result regs.new m h ≡ branches instr (hart_state regs.old m h) taken }
 {
     let mut next = following(regs);
     if taken {

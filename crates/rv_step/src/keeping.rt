@@ -4,12 +4,12 @@ ghost use Rattle.std.specs.Prelude.{◌≡◌, ◌+◌, ◌<◌, ◌≤◌, ◌%
 ghost use Rattle.std.specs.Vec.{vec_len};
 ghost use Rattle.rv_decode.specs.Encoded.{HasRegisters};
 ghost use Rattle.rv_decode.specs.declared.instr.Instr.{Instr as InstrValue};
-ghost use Rattle.rv_step.specs.Code.{instruction_at, kept};
+ghost use Rattle.rv_step.specs.Code.{instruction_at, kept_instruction};
 ghost use Rattle.rv_step.specs.Place.{place_of};
 ghost use Rattle.rv_step.specs.inner.Places.{is_noted};
 
 use crate::code::Code;
-use crate::found::Found;
+use crate::kept_instr::KeptInstr;
 use guest_mem::GuestMem;
 use rv_decode::{Instr, Op, decode};
 use std::alloc::{AllocError, Global};
@@ -37,11 +37,11 @@ fn place_of(pc: u32) -> usize
 
 /// What fills a place in which nothing is kept: it has an address of the next place, so that no address finds it.
 #[inline(always)]
-fn vacant(place: usize) -> Found
+fn vacant(place: usize) -> KeptInstr
     requires { place < 65536 }
     ensures { ¬ (place_of result.pc ≡ place) }
 {
-    Found {
+    KeptInstr {
         pc: ((place + 1) % PLACES * 4) as u32,
         instr: NOTHING,
     }
@@ -50,7 +50,7 @@ fn vacant(place: usize) -> Found
 impl Code {
     /// Nothing is kept yet. It takes all its memory here.
     pub fn new(alloc: Global) -> Result<Code, AllocError>
-        ensures { IfOk result (λ code. (pc : ℕ) → kept code pc ≡ None) }
+        ensures { IfOk result (λ code. (pc : ℕ) → kept_instruction code pc ≡ None) }
     {
         // It leaves each place vacant but that of its own address.
         let found = vacant(0);
@@ -68,8 +68,8 @@ impl Code {
 
     /// The instruction that is kept for an address, if one is.
     #[inline(always)]
-    pub fn kept(&self, pc: u32) -> Option<Instr>
-        ensures kept { result ≡ kept self.now pc }
+    pub fn kept_instruction(&self, pc: u32) -> Option<Instr>
+        ensures kept { result ≡ kept_instruction self.now pc }
         ensures registers { IfSome result HasRegisters }
     {
         let found = &self.places[place_of(pc)];
@@ -83,24 +83,24 @@ impl Code {
     #[cold]
     #[inline(never)]
     pub fn find(&mut self, mem: &GuestMem, pc: u32)
-        requires { kept self.old pc ≡ None }
-        ensures found { kept self.new pc ≡ instruction_at mem.now pc }
-        ensures others { (q : ℕ) (i : InstrValue) → kept self.new q ≡ Some i
-            → (q ≡ pc) ⊎ (kept self.old q ≡ Some i) }
+        requires { kept_instruction self.old pc ≡ None }
+        ensures found { kept_instruction self.new pc ≡ instruction_at mem.now pc }
+        ensures others { (q : ℕ) (i : InstrValue) → kept_instruction self.new q ≡ Some i
+            → (q ≡ pc) ⊎ (kept_instruction self.old q ≡ Some i) }
     {
         let Ok(word) = mem.fetch(pc) else {
             return;
         };
         if let Some(instr) = decode(word) {
-            self.keep(Found { pc, instr });
+            self.keep(KeptInstr { pc, instr });
         }
     }
 
     /// Keeps what was found.
-    fn keep(&mut self, found: Found)
-        ensures kept { kept self.new found.pc ≡ Some found.instr }
-        ensures others { (q : ℕ) (i : InstrValue) → kept self.new q ≡ Some i
-            → (q ≡ found.pc) ⊎ (kept self.old q ≡ Some i) }
+    fn keep(&mut self, found: KeptInstr)
+        ensures kept { kept_instruction self.new found.pc ≡ Some found.instr }
+        ensures others { (q : ℕ) (i : InstrValue) → kept_instruction self.new q ≡ Some i
+            → (q ≡ found.pc) ⊎ (kept_instruction self.old q ≡ Some i) }
     {
         self.note(found.pc);
         self.first = self.first.min(found.pc);
@@ -111,7 +111,7 @@ impl Code {
     /// The place of this address may be filled from here on.
     fn note(&mut self, pc: u32)
         ensures noted { is_noted (place_of pc) self.new.filled.items ≡ true }
-        ensures fewer { (q : ℕ) (i : InstrValue) → kept self.new q ≡ Some i → kept self.old q ≡ Some i }
+        ensures fewer { (q : ℕ) (i : InstrValue) → kept_instruction self.new q ≡ Some i → kept_instruction self.old q ≡ Some i }
     {
         let place = place_of(pc);
         if place_of(self.places[place].pc) == place {
@@ -124,7 +124,7 @@ impl Code {
     /// There is room to note an address. A place is noted again where it was emptied by a store.
     fn make_room(&mut self)
         ensures room { vec_len self.new.filled < 65536 }
-        ensures fewer { (q : ℕ) (i : InstrValue) → kept self.new q ≡ Some i → kept self.old q ≡ Some i }
+        ensures fewer { (q : ℕ) (i : InstrValue) → kept_instruction self.new q ≡ Some i → kept_instruction self.old q ≡ Some i }
     {
         if self.filled.len() >= PLACES {
             self.empty();
@@ -134,8 +134,8 @@ impl Code {
     /// Nothing is kept any more that stands within the four bytes from an address on.
     #[inline(always)]
     pub fn forget_near(&mut self, address: u32)
-        ensures fewer { (q : ℕ) (i : InstrValue) → kept self.new q ≡ Some i → kept self.old q ≡ Some i }
-        ensures apart { (q : ℕ) (i : InstrValue) → q < 2 ^ 32 → q % 4 ≡ 0 → kept self.new q ≡ Some i
+        ensures fewer { (q : ℕ) (i : InstrValue) → kept_instruction self.new q ≡ Some i → kept_instruction self.old q ≡ Some i }
+        ensures apart { (q : ℕ) (i : InstrValue) → q < 2 ^ 32 → q % 4 ≡ 0 → kept_instruction self.new q ≡ Some i
             → (q + 4 ≤ address) ⊎ (address + 4 ≤ q) }
     {
         let offset = address % 4;
@@ -148,8 +148,8 @@ impl Code {
     /// Nothing is kept any more for this address.
     #[inline(always)]
     fn forget_word(&mut self, pc: u32)
-        ensures fewer { (q : ℕ) (i : InstrValue) → kept self.new q ≡ Some i → kept self.old q ≡ Some i }
-        ensures gone { kept self.new pc ≡ None }
+        ensures fewer { (q : ℕ) (i : InstrValue) → kept_instruction self.new q ≡ Some i → kept_instruction self.old q ≡ Some i }
+        ensures gone { kept_instruction self.new pc ≡ None }
     {
         let place = place_of(pc);
         if self.places[place].pc == pc {
@@ -160,8 +160,8 @@ impl Code {
     /// Nothing is kept any more that stands within so many bytes from an address on.
     #[cold]
     pub fn forget_within(&mut self, address: u32, bytes: u64)
-        ensures fewer { (q : ℕ) (i : InstrValue) → kept self.new q ≡ Some i → kept self.old q ≡ Some i }
-        ensures apart { (q : ℕ) (i : InstrValue) → kept self.new q ≡ Some i
+        ensures fewer { (q : ℕ) (i : InstrValue) → kept_instruction self.new q ≡ Some i → kept_instruction self.old q ≡ Some i }
+        ensures apart { (q : ℕ) (i : InstrValue) → kept_instruction self.new q ≡ Some i
             → (q + 4 ≤ address) ⊎ (address + bytes ≤ q) }
     {
         let end = u128::from(address) + u128::from(bytes);

@@ -3,9 +3,9 @@
 ghost use Rattle.std.specs.Prelude.{◌≡◌, ◌<◌, ◌%◌, ◌+◌, ◌^◌, ℕ, Option};
 ghost use Rattle.std.specs.Option.{option_map};
 ghost use Rattle.std.specs.Result.{result_ok};
-ghost use Rattle.guest_mem.specs.Memory.{Memory, prot_read, loaded};
+ghost use Rattle.guest_mem.specs.Memory.{Memory, prot_read, load_at};
 ghost use Rattle.rv_decode.specs.Encoded.{HasRegisters};
-ghost use Rattle.rv_step.specs.Forms.{loads, outcome, reads, state};
+ghost use Rattle.rv_step.specs.Forms.{loads, outcome, reads, hart_state};
 ghost use Rattle.rv_step.specs.Numbers.{extended};
 ghost use Rattle.rv_step.specs.inner.Widths.{bytes_loaded, view_of};
 
@@ -29,7 +29,7 @@ fn finish(
 ) -> Stepped
     requires { HasRegisters instr }
     ensures { (m : Memory) (h : Option ℕ) → outcome result regs.new m h
-        ≡ reads instr (state regs.old m h) h address width (result_ok loaded) }
+        ≡ reads instr (hart_state regs.old m h) h address width (result_ok loaded) }
 {
     match loaded {
         Ok(value) => retire_with(regs, instr.rd, value, Touch::Read(address, width)),
@@ -40,7 +40,7 @@ fn finish(
 /// The byte at an address that may be read, with its sign extended.
 #[inline(always)]
 fn signed_byte(mem: &GuestMem, address: u32) -> Result<u32, Access>
-    ensures { result_ok result ≡ option_map (extended 8) (loaded mem.now prot_read address 1) }
+    ensures { result_ok result ≡ option_map (extended 8) (load_at mem.now prot_read address 1) }
 {
     Ok(extended_byte(mem.load8(address)?))
 }
@@ -48,7 +48,7 @@ fn signed_byte(mem: &GuestMem, address: u32) -> Result<u32, Access>
 /// The number of the two bytes from an address on, which may be read, with its sign extended.
 #[inline(always)]
 fn signed_half(mem: &GuestMem, address: u32) -> Result<u32, Access>
-    ensures { result_ok result ≡ option_map (extended 16) (loaded mem.now prot_read address 2) }
+    ensures { result_ok result ≡ option_map (extended 16) (load_at mem.now prot_read address 2) }
 {
     Ok(extended_half(mem.load16(address)?))
 }
@@ -56,7 +56,7 @@ fn signed_half(mem: &GuestMem, address: u32) -> Result<u32, Access>
 /// The number that a load gives for what it takes at an address.
 #[inline(always)]
 fn number(mem: &GuestMem, address: u32, load: Load) -> Result<u32, Access>
-    ensures { result_ok result ≡ option_map (view_of load) (loaded mem.now prot_read address (bytes_loaded load)) }
+    ensures { result_ok result ≡ option_map (view_of load) (load_at mem.now prot_read address (bytes_loaded load)) }
 {
     match load {
         Load::SignedByte => signed_byte(mem, address),
@@ -71,7 +71,7 @@ fn number(mem: &GuestMem, address: u32, load: Load) -> Result<u32, Access>
 #[inline(always)]
 pub fn load_by(regs: &mut Regs, mem: &GuestMem, instr: Instr, load: Load) -> Stepped
     requires { HasRegisters instr }
-    ensures { (h : Option ℕ) → outcome result regs.new mem.now h ≡ loads instr (state regs.old mem.now h)
+    ensures { (h : Option ℕ) → outcome result regs.new mem.now h ≡ loads instr (hart_state regs.old mem.now h)
         (bytes_loaded load) (view_of load) }
 {
     let address = address(regs, instr);

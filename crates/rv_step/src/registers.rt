@@ -3,7 +3,7 @@
 ghost use Rattle.std.specs.Prelude.{◌≡◌, ◌<◌, ◌%◌, ◌+◌, ◌^◌, ℕ, Option, slice_index};
 ghost use Rattle.guest_mem.specs.Memory.{Memory};
 ghost use Rattle.rv_decode.specs.Encoded.{HasRegisters};
-ghost use Rattle.rv_step.specs.Forms.{at, written, done, following, immediate, outcome, state, computes, passes};
+ghost use Rattle.rv_step.specs.Forms.{at, with_register, retirement, following, immediate, outcome, hart_state, computes, passes};
 
 use crate::stepped::Stepped;
 use event_costs::{Branch, Done, Flow, Regs, STACK_POINTER, Touch};
@@ -46,7 +46,7 @@ pub fn following(regs: &Regs) -> u32
 /// Control goes to `next`: the instruction retires.
 #[inline(always)]
 pub fn retire(regs: &mut Regs, next: u32, flow: Flow, touch: Touch, branch: Branch) -> Stepped
-    ensures answer { result ≡ done regs.old (at regs.old next) flow touch branch }
+    ensures answer { result ≡ retirement regs.old (at regs.old next) flow touch branch }
     ensures after { regs.new ≡ at regs.old next }
 {
     let pc = regs.pc;
@@ -65,9 +65,9 @@ pub fn retire(regs: &mut Regs, next: u32, flow: Flow, touch: Touch, branch: Bran
 #[inline(always)]
 pub fn retire_with(regs: &mut Regs, rd: u8, value: u32, touch: Touch) -> Stepped
     requires { rd < 32 }
-    ensures answer { result ≡ done regs.old (written regs.old rd value (following regs.old)) Flow.Plain touch
+    ensures answer { result ≡ retirement regs.old (with_register regs.old rd value (following regs.old)) Flow.Plain touch
         Branch.Nothing }
-    ensures after { regs.new ≡ written regs.old rd value (following regs.old) }
+    ensures after { regs.new ≡ with_register regs.old rd value (following regs.old) }
 {
     write(regs, rd, value);
     let next = following(regs);
@@ -78,7 +78,7 @@ pub fn retire_with(regs: &mut Regs, rd: u8, value: u32, touch: Touch) -> Stepped
 #[inline(always)]
 pub fn write(regs: &mut Regs, rd: u8, value: u32)
     requires { rd < 32 }
-    ensures { regs.new ≡ written regs.old rd value regs.old.pc }
+    ensures { regs.new ≡ with_register regs.old rd value regs.old.pc }
 {
     if rd != 0 {
         regs.x[usize::from(rd)] = value;
@@ -89,7 +89,7 @@ pub fn write(regs: &mut Regs, rd: u8, value: u32)
 #[inline(always)]
 #[tactic(auto, unfolding(crate::specs::Forms::passes, crate::specs::Forms::retires))]
 pub fn pass(regs: &mut Regs) -> Stepped
-    ensures { (m : Memory) (h : Option ℕ) → outcome result regs.new m h ≡ passes (state regs.old m h) }
+    ensures { (m : Memory) (h : Option ℕ) → outcome result regs.new m h ≡ passes (hart_state regs.old m h) }
 {
     let next = following(regs);
     retire(regs, next, Flow::Plain, Touch::Nothing, Branch::Nothing)
@@ -100,7 +100,7 @@ pub fn pass(regs: &mut Regs) -> Stepped
 #[tactic(auto, unfolding(crate::specs::Forms::computes, crate::specs::Forms::retires))]
 pub fn compute(regs: &mut Regs, instr: Instr, value: u32) -> Stepped
     requires { HasRegisters instr }
-    ensures { (m : Memory) (h : Option ℕ) → outcome result regs.new m h ≡ computes instr (state regs.old m h) value }
+    ensures { (m : Memory) (h : Option ℕ) → outcome result regs.new m h ≡ computes instr (hart_state regs.old m h) value }
 {
     retire_with(regs, instr.rd, value, Touch::Nothing)
 }

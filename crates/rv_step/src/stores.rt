@@ -1,9 +1,9 @@
 //! Stores.
 
 ghost use Rattle.std.specs.Prelude.{◌≡◌, ◌%◌, ◌+◌, ◌^◌, ℕ, if◌then◌else◌, is_ok, OnErr, Option};
-ghost use Rattle.guest_mem.specs.Memory.{prot_write, may, stored, bytes_of};
+ghost use Rattle.guest_mem.specs.Memory.{prot_write, may, store_at, bytes_of};
 ghost use Rattle.rv_decode.specs.Encoded.{HasRegisters};
-ghost use Rattle.rv_step.specs.Forms.{sigsegv, at, done, following, outcome, state, stores};
+ghost use Rattle.rv_step.specs.Forms.{sigsegv, at, retirement, following, outcome, hart_state, stores};
 ghost use Rattle.rv_step.specs.inner.Widths.{bytes_stored};
 
 use crate::registers::{address, following, read, retire};
@@ -17,7 +17,7 @@ use rv_decode::Instr;
 #[inline(always)]
 fn finish(regs: &mut Regs, address: u32, width: u8, stored: Result<(), Access>) -> Stepped
     ensures answer { result ≡ (if is_ok stored
-        then done regs.old (at regs.old (following regs.old)) Flow.Plain (Touch.Write address width) Branch.Nothing
+        then retirement regs.old (at regs.old (following regs.old)) Flow.Plain (Touch.Write address width) Branch.Nothing
         else Stepped.Trap sigsegv) }
     ensures after { regs.new ≡ (if is_ok stored then at regs.old (following regs.old) else regs.old) }
 {
@@ -33,7 +33,7 @@ fn finish(regs: &mut Regs, address: u32, width: u8, stored: Result<(), Access>) 
 #[inline(always)]
 fn put(mem: &mut GuestMem, address: u32, value: u32, store: Store) -> Result<(), Access>
     ensures allowed { is_ok result ≡ may mem.old prot_write address (bytes_stored store) }
-    ensures after { mem.new ≡ stored mem.old address (bytes_of (bytes_stored store) value) }
+    ensures after { mem.new ≡ store_at mem.old address (bytes_of (bytes_stored store) value) }
     ensures refused { OnErr result (mem.new ≡ mem.old) }
 {
     match store {
@@ -47,7 +47,7 @@ fn put(mem: &mut GuestMem, address: u32, value: u32, store: Store) -> Result<(),
 #[inline(always)]
 pub fn store_by(regs: &mut Regs, mem: &mut GuestMem, instr: Instr, store: Store) -> Stepped
     requires { HasRegisters instr }
-    ensures { (h : Option ℕ) → outcome result regs.new mem.new h ≡ stores instr (state regs.old mem.old h)
+    ensures { (h : Option ℕ) → outcome result regs.new mem.new h ≡ stores instr (hart_state regs.old mem.old h)
         (bytes_stored store) }
 {
     let address = address(regs, instr);

@@ -6,13 +6,13 @@ use Rattle.shadow_stack.specs.declared.arena.Node.{Node}
 use Rattle.shadow_stack.specs.declared.frame.Kind.{Kind}
 use Rattle.shadow_stack.specs.declared.frame.Kind.TheVariants.{Root, Call, Jump}
 use Rattle.shadow_stack.specs.Kinds.{is_jump, is_root}
-use Rattle.shadow_stack.specs.Stacks.{Activation, Stack, Group, base_of, groups, is_rooted, on_groups, rest_of, ungrouped}
+use Rattle.shadow_stack.specs.Stacks.{Activation, Stack, Group, base_of, groups, is_rooted, on_groups, rest_of, stack_of_groups}
 use Rattle.shadow_stack.specs.Frames.{activation, stack}
 use Rattle.shadow_stack.specs.Arenas.{base_in, frames_in, is_there, LiesIn, Link, links, links_from, node_at}
 use Rattle.shadow_stack.specs.Arenas.{stack_at}
 use Rattle.shadow_stack.proofs.ChainLemmas.{IsSplit, base-here, length-stack_at, links_from-none, split_suc, top_there}
 use Rattle.shadow_stack.proofs.ChainLemmas.{true_false}
-use Rattle.shadow_stack.proofs.ChangeLemmas.{ungrouped-groups}
+use Rattle.shadow_stack.proofs.ChangeLemmas.{stack_of_groups-groups}
 
 abbrev Slots : Type 0
 Slots = List (Option Node)
@@ -22,12 +22,12 @@ joined b a g gs = cond b (record { jumps = a ∷ g.jumps; base = g.base } ∷ gs
     (record { jumps = []; base = a } ∷ (g ∷ gs))
 
 -- a jump on a stack is of the group beneath it
-jump_base : (a : Activation) (gs : List Group) → 0 < length (ungrouped gs) → is_jump a.kind ≡ true
+jump_base : (a : Activation) (gs : List Group) → 0 < length (stack_of_groups gs) → is_jump a.kind ≡ true
     → base_of gs ≡ base_of (on_groups a gs)
 jump_base a [] some jumps = absurd (omega arith)
 jump_base a (g ∷ gs) some jumps = sym (ap (λ b. base_of (joined b a g gs)) jumps)
 
-jump_rest : (a : Activation) (gs : List Group) → 0 < length (ungrouped gs) → is_jump a.kind ≡ true
+jump_rest : (a : Activation) (gs : List Group) → 0 < length (stack_of_groups gs) → is_jump a.kind ≡ true
     → rest_of gs ≡ rest_of (on_groups a gs)
 jump_rest a [] some jumps = absurd (omega arith)
 jump_rest a (g ∷ gs) some jumps = sym (ap (λ b. rest_of (joined b a g gs)) jumps)
@@ -131,11 +131,11 @@ on_more s key n node lies at jumps under =
     whole : stack_at s (head_at key (suc (suc n))) ≡ activation node.frame ∷ below
     whole = ap (λ (l : List Link). stack (frames_in l)) sp.links
 
-    some : 0 < length (ungrouped (groups below))
+    some : 0 < length (stack_of_groups (groups below))
     some =
         omega (
           arith,
-          ap (length {A = Activation}) (ungrouped-groups below),
+          ap (length {A = Activation}) (stack_of_groups-groups below),
           length-stack_at s (head_at node.below (suc n)) sp.beneath,
         )
 

@@ -275,7 +275,7 @@ in_chain_there s head key h = links_from-keys s head.depth head.top key h
 -- Work through a head that changes nothing changes its chain only, and so does work after work.
 pub ChangesChainOnly-refl : (s : Slots) (head : Head) → ChangesChainOnly s head s head
 ChangesChainOnly-refl s head = record {
-  kept = λ key h. refl;
+  nodes = λ key h. refl;
   outside =
       λ key h. not_true (is_in_chain s head key) (and_parts (is_there s key) (not (is_in_chain s head key)) h).1;
   exactly = λ key h. same (is_there s key) (is_in_chain s head key) h (in_chain_there s head key);
@@ -291,13 +291,13 @@ still_outside : (s t : Slots) (head next : Head) (key : ℕ) → ChangesChainOnl
     → is_outside s head key ≡ true → is_outside t next key ≡ true
 still_outside s t head next key c h =
     and_from (is_there t key) (not (is_in_chain t next key))
-    (ap is_some (c.kept key h) ∙ (and_parts (is_there s key) (not (is_in_chain s head key)) h).0)
+    (ap is_some (c.nodes key h) ∙ (and_parts (is_there s key) (not (is_in_chain s head key)) h).0)
     (not_from_false (is_in_chain t next key) (c.outside key h))
 
 pub ChangesChainOnly-trans : (s t u : Slots) (first second third : Head) → ChangesChainOnly s first t second
     → ChangesChainOnly t second u third → ChangesChainOnly s first u third
 ChangesChainOnly-trans s t u first second third c d = record {
-  kept = λ key h. d.kept key (still_outside s t first second key c h) ∙ c.kept key h;
+  nodes = λ key h. d.nodes key (still_outside s t first second key c h) ∙ c.nodes key h;
   outside = λ key h. d.outside key (still_outside s t first second key c h);
   exactly = λ key h. by_mid key h (is_outside t second key) refl;
 }
@@ -335,7 +335,7 @@ leaves_others s t head next c other lies apart = record {
         off true e = absurd (cc (apart key e, on))
 
     same : links t other ≡ links s other
-    same = links_from-kept s t other.depth other.top lies.there (λ key on. c.kept key (off_head key on))
+    same = links_from-kept s t other.depth other.top lies.there (λ key on. c.nodes key (off_head key on))
 
     by_in : (key : ℕ) → is_in_chain t next key ≡ true → (b : Bool) → is_in_chain t other key ≡ b
         → is_in_chain t other key ≡ false
@@ -375,7 +375,7 @@ pushed s t head key node lies vacant at others below summary rooted = record {
   };
   frames = ap frames_in whole;
   chain = record {
-    kept = λ j h. others j (not_key j h);
+    nodes = λ j h. others j (not_key j h);
     outside = λ j h. outside j h;
     exactly = λ j h. exactly j h (eqb_tells key j);
   };
@@ -435,7 +435,7 @@ popped s t head node lies some at gone others = record {
   lies = lies_same s t (beneath head node) sp.beneath same;
   frames = ap frames_in whole ∙ ap (λ (l : List Frame). node.frame ∷ l) (sym (ap frames_in same));
   chain = record {
-    kept = λ j h. others j (not_top j h);
+    nodes = λ j h. others j (not_top j h);
     outside = λ j h. ap (λ (l : List Link). is_in j (keys_in l)) same ∙ off_rest j (off j h);
     exactly = λ j h. exactly j h (eqb_tells head.top j);
   };

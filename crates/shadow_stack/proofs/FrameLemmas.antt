@@ -9,9 +9,9 @@ use Rattle.event_costs.specs.declared.event.Event.{Event}
 use Rattle.sym_map.specs.SymbolMap.{SymbolMap}
 use Rattle.shadow_stack.specs.declared.frame.Frame.{Frame}
 use Rattle.shadow_stack.specs.Stacks.{Activation, Stack, is_rooted}
-use Rattle.shadow_stack.specs.Changes.{Change, after, change, change_by, gone, with_pushed}
+use Rattle.shadow_stack.specs.Changes.{Change, after, change, change_by, drop_count, with_pushed}
 use Rattle.shadow_stack.specs.Traces.{stack_after}
-use Rattle.shadow_stack.specs.Frames.{frame_of, frames_after, kept, pushed, restarted, restarted_at, stack}
+use Rattle.shadow_stack.specs.Frames.{frame_of, frames_after, kept_frames, pushed_activation, restarted_frames, restarted_frame, stack}
 use Rattle.shadow_stack.specs.Frames.{StartWithin, with_frame}
 use Rattle.shadow_stack.proofs.ChangeLemmas.{change-end, change-rooted, drop-end}
 use Rattle.shadow_stack.proofs.PlanLemmas.{stack-drop}
@@ -24,10 +24,10 @@ stack-with_frame total (Some a) fs = refl
 pub stack-frames_after : (syms : SymbolMap) (total : List ℕ) (fs : List Frame) (e : Event)
     → stack (frames_after syms total fs e) ≡ after syms (stack fs) e
 stack-frames_after syms total fs e =
-    stack-with_frame total (pushed syms e fs) (kept syms e fs)
+    stack-with_frame total (pushed_activation syms e fs) (kept_frames syms e fs)
     ∙ ap (λ (s : Stack). with_pushed (change syms e (stack fs)).pushed s)
-    (stack-drop (gone syms e (stack fs)) fs
-    ∙ drop-end (change syms e (stack fs)).kept (stack fs) (change-end syms e (stack fs)))
+    (stack-drop (drop_count syms e (stack fs)) fs
+    ∙ drop-end (change syms e (stack fs)).rest (stack fs) (change-end syms e (stack fs)))
 
 -- a stack that stands for events stands for one more after the next
 pub stands_more : (syms : SymbolMap) (first s : Stack) (es : List Event) (e : Event) → s ≡ stack_after syms first es
@@ -43,13 +43,13 @@ rooted-push (Some a) (b ∷ s) rooted = rooted
 pub after-rooted : (syms : SymbolMap) (s : Stack) (e : Event) → is_rooted s ≡ true → e.ends ≡ false
     → is_rooted (after syms s e) ≡ true
 after-rooted syms s e rooted goes_on =
-    rooted-push (change syms e s).pushed (change syms e s).kept (change-rooted syms e s goes_on rooted)
+    rooted-push (change syms e s).pushed (change syms e s).rest (change-rooted syms e s goes_on rooted)
 
 pub after-end : (syms : SymbolMap) (s : Stack) (e : Event) → e.ends ≡ true → after syms s e ≡ []
 after-end syms s e ends =
-    let gone : Change = record { kept = []; pushed = None } in
-    ap (λ b. with_pushed (cond b gone (change_by syms e s e.done.flow)).pushed
-    (cond b gone (change_by syms e s e.done.flow)).kept) ends
+    let last : Change = record { rest = []; pushed = None } in
+    ap (λ b. with_pushed (cond b last (change_by syms e s e.done.flow)).pushed
+    (cond b last (change_by syms e s e.done.flow)).rest) ends
 
 pub no_frames : (fs : List Frame) → stack fs ≡ [] → fs ≡ []
 no_frames [] none = refl
@@ -97,11 +97,11 @@ StartWithin-with total (Some a) fs all = StartWithin-cons total (frame_of total 
 pub StartWithin-after : (syms : SymbolMap) (total : List ℕ) (fs : List Frame) (e : Event) → StartWithin total fs
     → StartWithin total (frames_after syms total fs e)
 StartWithin-after syms total fs e all =
-    StartWithin-with total (pushed syms e fs) (kept syms e fs) (StartWithin-drop total (gone syms e (stack fs)) fs all)
+    StartWithin-with total (pushed_activation syms e fs) (kept_frames syms e fs) (StartWithin-drop total (drop_count syms e (stack fs)) fs all)
 
-pub StartWithin-restarted : (total : List ℕ) (fs : List Frame) → StartWithin total (restarted total fs)
+pub StartWithin-restarted : (total : List ℕ) (fs : List Frame) → StartWithin total (restarted_frames total fs)
 StartWithin-restarted total [] = λ k d h. absurd (omega arith)
-StartWithin-restarted total (f ∷ fs) = StartWithin-cons total (restarted_at total f) (restarted total fs)
+StartWithin-restarted total (f ∷ fs) = StartWithin-cons total (restarted_frame total f) (restarted_frames total fs)
     (covers_itself total) (StartWithin-restarted total fs)
 
 covers_more : (more total start : List ℕ) → AllZip (λ t s. s ≤ t) more total → AllZip (λ t s. s ≤ t) total start

@@ -14,7 +14,7 @@ use Rattle.shadow_stack.specs.declared.frame.Frame.{Frame}
 use Rattle.shadow_stack.specs.Stacks.{Stack, is_rooted}
 use Rattle.shadow_stack.specs.declared.frame.Kind.{Kind}
 use Rattle.shadow_stack.specs.Kinds.{is_jump}
-use Rattle.shadow_stack.specs.Frames.{activation, stack, closing, closings, restarted, restarted_at}
+use Rattle.shadow_stack.specs.Frames.{activation, stack, closing, closings, restarted_frames, restarted_frame}
 use Rattle.shadow_stack.specs.Arenas.{node_at, is_there, Link, links_from, links, frames_in, keys_in, is_in}
 use Rattle.shadow_stack.specs.Arenas.{are_distinct, frames, is_in_chain, least_with, least_sp, greatest_with}
 use Rattle.shadow_stack.specs.Arenas.{ends, first, parts_at, turn_of, greatest_sp, base_in, summary_of, summaries_of, summaries_in}
@@ -70,20 +70,20 @@ summaries_in-again : (total : List ℕ) (ls : List Link) → summaries_in (map (
 summaries_in-again total [] = refl
 summaries_in-again total (l ∷ ls) = ap (λ (ks : List Summary). l.node.summary ∷ ks) (summaries_in-again total ls)
 
-frames_in-again : (total : List ℕ) (ls : List Link) → frames_in (map (again total) ls) ≡ restarted total (frames_in ls)
+frames_in-again : (total : List ℕ) (ls : List Link) → frames_in (map (again total) ls) ≡ restarted_frames total (frames_in ls)
 frames_in-again total [] = refl
 frames_in-again total (l ∷ ls) =
-    ap (λ (fs : List Frame). restarted_at total l.node.frame ∷ fs) (frames_in-again total ls)
+    ap (λ (fs : List Frame). restarted_frame total l.node.frame ∷ fs) (frames_in-again total ls)
 
-pub stack-restarted : (total : List ℕ) (fs : List Frame) → stack (restarted total fs) ≡ stack fs
+pub stack-restarted : (total : List ℕ) (fs : List Frame) → stack (restarted_frames total fs) ≡ stack fs
 stack-restarted total [] = refl
 stack-restarted total (f ∷ fs) = ap (λ (s : Stack). activation f ∷ s) (stack-restarted total fs)
 
-least_sp-restarted : (total : List ℕ) (fs : List Frame) → least_sp (restarted total fs) ≡ least_sp fs
+least_sp-restarted : (total : List ℕ) (fs : List Frame) → least_sp (restarted_frames total fs) ≡ least_sp fs
 least_sp-restarted total [] = refl
 least_sp-restarted total (f ∷ fs) = ap (least_with f.kind) (least_sp-restarted total fs)
 
-greatest_sp-restarted : (total : List ℕ) (fs : List Frame) → greatest_sp (restarted total fs) ≡ greatest_sp fs
+greatest_sp-restarted : (total : List ℕ) (fs : List Frame) → greatest_sp (restarted_frames total fs) ≡ greatest_sp fs
 greatest_sp-restarted total [] = refl
 greatest_sp-restarted total (f ∷ fs) = ap (greatest_with f.kind) (greatest_sp-restarted total fs)
 
@@ -127,7 +127,7 @@ summaries_of-again total (l ∷ ls) = cc (summary_of-again total l.node.frame.ki
 -- A chain was restarted, and nothing else.
 pub record IsRestarted (total : List ℕ) (s t : Slots) (head : Head) : Type 0 where
   pub lies : LiesIn t head
-  pub frames : frames t head ≡ restarted total (frames s head)
+  pub frames : frames t head ≡ restarted_frames total (frames s head)
   pub chain : ChangesChainOnly s head t head
 
 in_chain_now : (total : List ℕ) (s t : Slots) (head : Head) → AreRestarted (is_in_chain s head) total s t → (k : ℕ)
@@ -157,7 +157,7 @@ restarted_chain total s t head lies all = record {
   };
   frames = now;
   chain = record {
-    kept = λ key h. off_chain_now total s t head all key (off key h);
+    nodes = λ key h. off_chain_now total s t head all key (off key h);
     outside = λ key h. ap (is_in key) keys ∙ off key h;
     exactly = λ key h. ap is_some (all key) ∙ is_some-restarted (is_in_chain s head key) total (node_at s key)
         ∙ (ChangesChainOnly-refl s head).exactly key h ∙ sym (ap (is_in key) keys);
@@ -170,7 +170,7 @@ restarted_chain total s t head lies all = record {
     keys : keys_in (links t head) ≡ keys_in (links s head)
     keys = ap keys_in whole ∙ keys_in-again total (links s head)
 
-    now : frames t head ≡ restarted total (frames s head)
+    now : frames t head ≡ restarted_frames total (frames s head)
     now = ap frames_in whole ∙ frames_in-again total (links s head)
 
     off : (key : ℕ) → is_outside s head key ≡ true → is_in_chain s head key ≡ false

@@ -10,12 +10,12 @@ use Rattle.shadow_stack.specs.declared.frame.Frame.{Frame}
 use Rattle.shadow_stack.specs.declared.frame.Kind.{Kind}
 use Rattle.shadow_stack.specs.declared.frame.Kind.TheVariants.{Root, Call, Jump}
 use Rattle.shadow_stack.specs.Kinds.{is_jump, is_left_by, is_level}
-use Rattle.shadow_stack.specs.Stacks.{Activation, Stack, Group, is_of, has_func, is_top, members, groups, on_groups}
-use Rattle.shadow_stack.specs.Stacks.{ungrouped, base_of, rest_of}
+use Rattle.shadow_stack.specs.Stacks.{Activation, Stack, Group, is_activation_of, has_func, is_top, members, groups, on_groups}
+use Rattle.shadow_stack.specs.Stacks.{stack_of_groups, base_of, rest_of}
 use Rattle.shadow_stack.specs.Changes.{beneath_call, down_to, is_returned_from, next_func}
 use Rattle.shadow_stack.specs.Frames.{stack}
 use Rattle.shadow_stack.specs.Arenas.{least_with, least_sp, greatest_with, greatest_sp}
-use Rattle.shadow_stack.proofs.ChangeLemmas.{ungrouped-groups}
+use Rattle.shadow_stack.proofs.ChangeLemmas.{stack_of_groups-groups}
 
 -- a call with a stack pointer that is below the least isn't there
 other_call : (e : Event) (k : Kind) (least : ℕ) → e.done.sp < least_with k least → (is_left_by e k ≡ false)
@@ -78,16 +78,16 @@ with_more false c s o h = h
 
 first_has-on : (func : FuncId) (a : Activation) (s : Stack) (gs : List Group) (o : Option Stack)
     → first_has func gs ≡ is_some o
-    → first_has func (on_groups a gs) ≡ is_some (cond (is_of func a) (Some (a ∷ s)) (cond (is_jump a.kind) o None))
-first_has-on func a s [] o later = alone (is_of func a) (is_jump a.kind) (a ∷ s) o (λ jumps. sym later)
+    → first_has func (on_groups a gs) ≡ is_some (cond (is_activation_of func a) (Some (a ∷ s)) (cond (is_jump a.kind) o None))
+first_has-on func a s [] o later = alone (is_activation_of func a) (is_jump a.kind) (a ∷ s) o (λ jumps. sym later)
 first_has-on func a s (g ∷ gs) o later = by_jump (is_jump a.kind)
   where
     by_jump : (c : Bool)
         → first_has func
         (cond c (record { jumps = a ∷ g.jumps; base = g.base } ∷ gs) (record { jumps = []; base = a } ∷ (g ∷ gs)))
-        ≡ is_some (cond (is_of func a) (Some (a ∷ s)) (cond c o None))
-    by_jump true = with_more (is_of func a) (has_func func (members g)) (a ∷ s) o later
-    by_jump false = alone (is_of func a) false (a ∷ s) o (λ h. absurd (cc))
+        ≡ is_some (cond (is_activation_of func a) (Some (a ∷ s)) (cond c o None))
+    by_jump true = with_more (is_activation_of func a) (has_func func (members g)) (a ∷ s) o later
+    by_jump false = alone (is_activation_of func a) false (a ∷ s) o (λ h. absurd (cc))
 
 first_has-groups : (func : FuncId) (s : Stack) → first_has func (groups s) ≡ is_some (down_to func s)
 first_has-groups func [] = refl
@@ -121,13 +121,13 @@ returned syms e s below some rest = by_groups (groups s) refl rest (first_has-gr
         ≡ (is_level e (base_of gs) && not (is_entry_at syms e.done.next)
         && not (is_some (down_to (next_func syms e) s)) && is_top (next_func syms e) below)
     by_groups [] none rest has =
-        absurd (omega (arith, ap (length {A = Activation}) (sym (ungrouped-groups s) ∙ ap ungrouped none)))
+        absurd (omega (arith, ap (length {A = Activation}) (sym (stack_of_groups-groups s) ∙ ap stack_of_groups none)))
     by_groups (g ∷ gs) are rest has =
         ap (λ b. is_level e g.base.kind && not (is_entry_at syms e.done.next) && not b
-        && is_top (next_func syms e) (ungrouped gs)) has
+        && is_top (next_func syms e) (stack_of_groups gs)) has
         ∙ ap (λ t. is_level e g.base.kind && not (is_entry_at syms e.done.next)
         && not (is_some (down_to (next_func syms e) s)) && is_top (next_func syms e) t)
-        (ap ungrouped (sym rest) ∙ ungrouped-groups below)
+        (ap stack_of_groups (sym rest) ∙ stack_of_groups-groups below)
 
 pub returned_found : (syms : SymbolMap) (e : Event) (s below : Stack) (func : FuncId) → 0 < length s
     → groups below ≡ rest_of (groups s) → func ≡ next_func syms e

@@ -1,20 +1,20 @@
 -- What is told of frames, in its order.
 use Rattle.std.proofs.Common.{◌≡◌, ℕ, suc, List, [], ◌∷◌, ◌++◌, take, drop, sym, ap, subst, ◌∙◌, arith}
-use Rattle.event_costs.specs.Arcs.{Telling, ToldAll}
+use Rattle.event_costs.specs.Arcs.{Telling, TakesAll}
 use Rattle.shadow_stack.specs.declared.frame.Frame.{Frame}
 use Rattle.shadow_stack.specs.Frames.{closing, closings, StartWithin}
 
-module _ {S : Type 0} (told : S → Telling → S → Type 0) where
-  pub ToldAll-append : (first mid last : S) (ts us : List Telling) → ToldAll told first ts mid
-      → ToldAll told mid us last → ToldAll told first (ts ++ us) last
-  ToldAll-append first mid last [] us here later = subst (λ s. ToldAll told s us last) (sym here) later
-  ToldAll-append first mid last (t ∷ ts) us here later =
-      (here.0, here.1, ToldAll-append here.0 mid last ts us here.2 later)
+module _ {S : Type 0} (takes : S → Telling → S → Type 0) where
+  pub TakesAll-append : (first mid last : S) (ts us : List Telling) → TakesAll takes first ts mid
+      → TakesAll takes mid us last → TakesAll takes first (ts ++ us) last
+  TakesAll-append first mid last [] us here later = subst (λ s. TakesAll takes s us last) (sym here) later
+  TakesAll-append first mid last (t ∷ ts) us here later =
+      (here.0, here.1, TakesAll-append here.0 mid last ts us here.2 later)
 
   pub takes_later : (can_take : S → List Telling → Type 0)
-      → ((old new : S) (t : Telling) (rest : List Telling) → can_take old (t ∷ rest) → told old t new
+      → ((old new : S) (t : Telling) (rest : List Telling) → can_take old (t ∷ rest) → takes old t new
       → can_take new rest)
-      → (first mid : S) (ts us : List Telling) → can_take first (ts ++ us) → ToldAll told first ts mid → can_take mid us
+      → (first mid : S) (ts us : List Telling) → can_take first (ts ++ us) → TakesAll takes first ts mid → can_take mid us
   takes_later can_take more first mid [] us can here = subst (λ s. can_take s us) here can
   takes_later can_take more first mid (t ∷ ts) us can here =
       takes_later can_take more here.0 mid ts us (more first here.0 t (ts ++ us) can here.1) here.2

@@ -12,7 +12,7 @@ use Rattle.shadow_stack.specs.declared.frame.Kind.{Kind}
 use Rattle.shadow_stack.specs.declared.frame.Kind.TheVariants.{Root, Call, Jump}
 use Rattle.shadow_stack.specs.Kinds.{is_jump}
 use Rattle.shadow_stack.specs.Stacks.{Stack, is_rooted}
-use Rattle.shadow_stack.specs.Frames.{stack, restarted_at}
+use Rattle.shadow_stack.specs.Frames.{stack, restarted_frame}
 
 -- the node or nothing at each key from 0 on, and how many more nodes fit without memory
 pub record Nodes : Type 0 where
@@ -176,7 +176,7 @@ is_outside slots head key = is_there slots key && not (is_in_chain slots head ke
 -- exactly those of its new chain are there.
 pub record ChangesChainOnly (old : List (Option Node)) (head : Head) (new : List (Option Node))
     (new_head : Head) : Type 0 where
-  pub kept : (key : ℕ) → is_outside old head key ≡ true → node_at new key ≡ node_at old key
+  pub nodes : (key : ℕ) → is_outside old head key ≡ true → node_at new key ≡ node_at old key
   pub outside : (key : ℕ) → is_outside old head key ≡ true → is_in_chain new new_head key ≡ false
   pub exactly : (key : ℕ) → is_outside old head key ≡ false → is_there new key ≡ is_in_chain new new_head key
 
@@ -200,7 +200,7 @@ above head key = record { top = key; depth = head.depth + 1 }
 
 -- the nodes of which this test holds start at the total
 abbrev pub restarted_node : List ℕ → Node → Node
-restarted_node total node = record node { frame = restarted_at total node.frame }
+restarted_node total node = record node { frame = restarted_frame total node.frame }
 
 abbrev pub restarted_if : Bool → List ℕ → Option Node → Option Node
 restarted_if true total o = option_map (restarted_node total) o

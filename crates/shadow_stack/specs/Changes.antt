@@ -9,7 +9,7 @@ use Rattle.event_costs.specs.declared.numbers.FuncId.{FuncId}
 use Rattle.sym_map.specs.SymbolMap.{SymbolMap, place_of, is_entry_at}
 use Rattle.shadow_stack.specs.declared.frame.Kind.{Kind}
 use Rattle.shadow_stack.specs.Kinds.{call_of, jump, is_jump, is_left_by, returns_by, is_below, is_level}
-use Rattle.shadow_stack.specs.Stacks.{Activation, Stack, Group, is_of, has_func, is_top, members, groups, ungrouped}
+use Rattle.shadow_stack.specs.Stacks.{Activation, Stack, Group, is_activation_of, has_func, is_top, members, groups, stack_of_groups}
 
 -- the function that the event leads to
 abbrev pub next_func : SymbolMap → Event → FuncId
@@ -36,33 +36,33 @@ abbrev pub is_returned_from : SymbolMap → Event → List Group → Bool
 is_returned_from syms e [] = false
 is_returned_from syms e (g ∷ gs) =
     is_level e g.base.kind && not (is_entry_at syms e.done.next)
-    && not (has_func (next_func syms e) (members g)) && is_top (next_func syms e) (ungrouped gs)
+    && not (has_func (next_func syms e) (members g)) && is_top (next_func syms e) (stack_of_groups gs)
 
 -- (c) the groups that the stack pointer leaves
 abbrev pub above_sp : SymbolMap → Event → List Group → List Group
 above_sp syms e gs = drop_groups (is_returned_from syms e) (drop_groups (is_under e) gs)
 
 -- (b) the innermost group goes if it begins with a call that returns to the new pc; (c) else the stack pointer decides
-abbrev pub left_groups : SymbolMap → Event → List Group → List Group
-left_groups syms e [] = []
-left_groups syms e (g ∷ gs) = if returns_by e g.base.kind then gs else above_sp syms e (g ∷ gs)
+abbrev pub remaining_groups : SymbolMap → Event → List Group → List Group
+remaining_groups syms e [] = []
+remaining_groups syms e (g ∷ gs) = if returns_by e g.base.kind then gs else above_sp syms e (g ∷ gs)
 
-abbrev pub or_left : SymbolMap → Event → Stack → Option Stack → Stack
-or_left syms e s (Some rest) = rest
-or_left syms e s None = ungrouped (left_groups syms e (groups s))
+abbrev pub rest_or_groups : SymbolMap → Event → Stack → Option Stack → Stack
+rest_or_groups syms e s (Some rest) = rest
+rest_or_groups syms e s None = stack_of_groups (remaining_groups syms e (groups s))
 
 -- what a jump leaves of a stack
 abbrev pub cut : SymbolMap → Event → Stack → Stack
-cut syms e s = or_left syms e s (beneath_call e s)
+cut syms e s = rest_or_groups syms e s (beneath_call e s)
 
 -- what is left of a stack, and what is pushed on it
 pub record Change : Type 0 where
-  pub kept : Stack
+  pub rest : Stack
   pub pushed : Option Activation
 
 -- a stack that stays as it is
-abbrev pub unchanged : Stack → Change
-unchanged s = record { kept = s; pushed = None }
+abbrev pub no_change : Stack → Change
+no_change s = record { rest = s; pushed = None }
 
 -- the arc from the top of a stack to a function, at the place of the entering instruction
 abbrev pub arc_from : Place → FuncId → Stack → Option ArcKey
@@ -70,23 +70,23 @@ arc_from place callee [] = None
 arc_from place callee (a ∷ s) = Some (record { caller = a.func; file = place.file; line = place.line; callee = callee })
 
 -- an activation of this function on a stack, entered at this place
-abbrev pub entered_at : Place → FuncId → Kind → Stack → Activation
-entered_at place func kind s = record { func = func; kind = kind; arc = arc_from place func s }
+abbrev pub activation_at : Place → FuncId → Kind → Stack → Activation
+activation_at place func kind s = record { func = func; kind = kind; arc = arc_from place func s }
 
 -- the one that the event makes
-abbrev pub entered : SymbolMap → Event → Kind → Stack → Activation
-entered syms e kind s = entered_at (place_of syms e.done.pc) (next_func syms e) kind s
+abbrev pub new_activation : SymbolMap → Event → Kind → Stack → Activation
+new_activation syms e kind s = activation_at (place_of syms e.done.pc) (next_func syms e) kind s
 
 abbrev pub push : SymbolMap → Event → Kind → Stack → Change
-push syms e kind s = record { kept = s; pushed = Some (entered syms e kind s) }
+push syms e kind s = record { rest = s; pushed = Some (new_activation syms e kind s) }
 
 -- the stack from the highest frame of a function in the innermost group on
 abbrev pub down_to : FuncId → Stack → Option Stack
 down_to func [] = None
-down_to func (a ∷ s) = if is_of func a then Some (a ∷ s) else (if is_jump a.kind then down_to func s else None)
+down_to func (a ∷ s) = if is_activation_of func a then Some (a ∷ s) else (if is_jump a.kind then down_to func s else None)
 
 abbrev pub settle_on : SymbolMap → Event → Stack → Option Stack → Change
-settle_on syms e s (Some rest) = record { kept = rest; pushed = None }
+settle_on syms e s (Some rest) = record { rest = rest; pushed = None }
 settle_on syms e s None = push syms e jump s
 
 -- The top becomes a frame of the next function: the highest one of the innermost group, or a new jump.
@@ -101,7 +101,7 @@ change_by syms e s Swap = push syms e (call_of e) (cut syms e s)
 
 -- a thread that ends loses its stack
 abbrev pub change : SymbolMap → Event → Stack → Change
-change syms e s = if e.ends then record { kept = []; pushed = None } else change_by syms e s e.done.flow
+change syms e s = if e.ends then record { rest = []; pushed = None } else change_by syms e s e.done.flow
 
 abbrev pub with_pushed : Option Activation → Stack → Stack
 with_pushed None s = s
@@ -109,12 +109,12 @@ with_pushed (Some a) s = a ∷ s
 
 -- the stack after an event
 abbrev pub after : SymbolMap → Stack → Event → Stack
-after syms s e = with_pushed (change syms e s).pushed (change syms e s).kept
+after syms s e = with_pushed (change syms e s).pushed (change syms e s).rest
 
 -- how many activations an event drops from the top
-abbrev pub gone : SymbolMap → Event → Stack → ℕ
-gone syms e s = length s - length (change syms e s).kept
+abbrev pub drop_count : SymbolMap → Event → Stack → ℕ
+drop_count syms e s = length s - length (change syms e s).rest
 
 -- the change that keeps this stack and pushes an activation of this kind
 abbrev pub change_to : SymbolMap → Event → Stack → Option Kind → Change
-change_to syms e s kind = record { kept = s; pushed = option_map (λ k. entered syms e k s) kind }
+change_to syms e s kind = record { rest = s; pushed = option_map (λ k. new_activation syms e k s) kind }

@@ -8,7 +8,7 @@ use Rattle.event_costs.specs.declared.event.Event.{Event}
 use Rattle.sym_map.specs.SymbolMap.{SymbolMap}
 use Rattle.shadow_stack.specs.declared.frame.Frame.{Frame}
 use Rattle.shadow_stack.specs.Stacks.{Activation, Stack}
-use Rattle.shadow_stack.specs.Changes.{change, gone}
+use Rattle.shadow_stack.specs.Changes.{change, drop_count}
 
 abbrev pub activation : Frame → Activation
 activation f = record { func = f.func; kind = f.kind; arc = f.from }
@@ -26,26 +26,26 @@ with_frame total None fs = fs
 with_frame total (Some a) fs = frame_of total a ∷ fs
 
 -- the frames that an event drops, and those that stay
-abbrev pub dropped : SymbolMap → Event → List Frame → List Frame
-dropped syms e fs = take (gone syms e (stack fs)) fs
+abbrev pub dropped_frames : SymbolMap → Event → List Frame → List Frame
+dropped_frames syms e fs = take (drop_count syms e (stack fs)) fs
 
-abbrev pub kept : SymbolMap → Event → List Frame → List Frame
-kept syms e fs = drop (gone syms e (stack fs)) fs
+abbrev pub kept_frames : SymbolMap → Event → List Frame → List Frame
+kept_frames syms e fs = drop (drop_count syms e (stack fs)) fs
 
 -- the activation that an event pushes
-abbrev pub pushed : SymbolMap → Event → List Frame → Option Activation
-pushed syms e fs = (change syms e (stack fs)).pushed
+abbrev pub pushed_activation : SymbolMap → Event → List Frame → Option Activation
+pushed_activation syms e fs = (change syms e (stack fs)).pushed
 
 -- the frames after an event, at the thread's total
 abbrev pub frames_after : SymbolMap → List ℕ → List Frame → Event → List Frame
-frames_after syms total fs e = with_frame total (pushed syms e fs) (kept syms e fs)
+frames_after syms total fs e = with_frame total (pushed_activation syms e fs) (kept_frames syms e fs)
 
 -- the frames after a restart at this total
-abbrev pub restarted_at : List ℕ → Frame → Frame
-restarted_at total f = record f { start = total }
+abbrev pub restarted_frame : List ℕ → Frame → Frame
+restarted_frame total f = record f { start = total }
 
-abbrev pub restarted : List ℕ → List Frame → List Frame
-restarted total fs = map (restarted_at total) fs
+abbrev pub restarted_frames : List ℕ → List Frame → List Frame
+restarted_frames total fs = map (restarted_frame total) fs
 
 -- no start passes the total
 abbrev pub StartWithin : List ℕ → List Frame → Type 0
@@ -65,7 +65,7 @@ pushing (Some a) = option_map_or (λ arc. Pushed arc ∷ []) a.arc []
 
 -- what is told at an event: the frames that go, and then the one that is pushed
 abbrev pub tellings : SymbolMap → List ℕ → List Frame → Event → List Telling
-tellings syms total fs e = closings total (dropped syms e fs) ++ pushing (pushed syms e fs)
+tellings syms total fs e = closings total (dropped_frames syms e fs) ++ pushing (pushed_activation syms e fs)
 
 -- how many frames are pushed
 abbrev pub count_pushed : Option Activation → ℕ

@@ -33,16 +33,16 @@ is_rooted (a ∷ []) = is_root a.kind
 is_rooted (a ∷ (b ∷ s)) = is_rooted (b ∷ s)
 
 -- whether it is an activation of this function
-abbrev pub is_of : FuncId → Activation → Bool
-is_of func a = a.func.0 == func.0
+abbrev pub is_activation_of : FuncId → Activation → Bool
+is_activation_of func a = a.func.0 == func.0
 
 abbrev pub has_func : FuncId → Stack → Bool
-has_func func s = list_any (is_of func) s
+has_func func s = list_any (is_activation_of func) s
 
 -- the top is an activation of this function
 abbrev pub is_top : FuncId → Stack → Bool
 is_top func [] = false
-is_top func (a ∷ s) = is_of func a
+is_top func (a ∷ s) = is_activation_of func a
 
 -- A group is a root or a call with the jumps directly above it.
 pub record Group : Type 0 where
@@ -66,8 +66,8 @@ abbrev pub groups : Stack → List Group
 groups [] = []
 groups (a ∷ s) = on_groups a (groups s)
 
-abbrev pub ungrouped : List Group → Stack
-ungrouped gs = flat_map members gs
+abbrev pub stack_of_groups : List Group → Stack
+stack_of_groups gs = flat_map members gs
 
 -- what the innermost group begins with, and the groups beneath it
 abbrev pub base_of : List Group → Kind

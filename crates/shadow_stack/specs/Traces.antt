@@ -21,32 +21,32 @@ abbrev pub stack_of : SymbolMap → List Event → ℕ → Stack
 stack_of syms es pc = stack_after syms (root syms (first_pc es pc)) es
 
 -- an event with what it cost
-pub record Counted : Type 0 where
+pub record CountedEvent : Type 0 where
   pub event : Event
   pub cost : List ℕ
 
-abbrev pub is_by : ThreadNo → Counted → Bool
+abbrev pub is_by : ThreadNo → CountedEvent → Bool
 is_by thread x = x.event.thread.0 == thread.0
 
 -- the events of one thread, in their order
-abbrev pub own : ThreadNo → List Counted → List Event
-own thread xs = map (λ x. x.event) (filter (is_by thread) xs)
+abbrev pub events_by : ThreadNo → List CountedEvent → List Event
+events_by thread xs = map (λ x. x.event) (filter (is_by thread) xs)
 
 -- an event with what it cost, and the stack of its thread before it
-pub record Seen : Type 0 where
+pub record EventOnStack : Type 0 where
   pub event : Event
   pub cost : List ℕ
   pub stack : Stack
 
 -- an event that follows these, of all threads
-abbrev pub seen_after : SymbolMap → List Counted → Counted → Seen
-seen_after syms earlier x =
-    record { event = x.event; cost = x.cost; stack = stack_of syms (own x.event.thread earlier) x.event.done.pc }
+abbrev pub event_on_stack_after : SymbolMap → List CountedEvent → CountedEvent → EventOnStack
+event_on_stack_after syms earlier x =
+    record { event = x.event; cost = x.cost; stack = stack_of syms (events_by x.event.thread earlier) x.event.done.pc }
 
-abbrev pub seen_from : SymbolMap → List Counted → List Counted → List Seen
-seen_from syms earlier [] = []
-seen_from syms earlier (x ∷ xs) = seen_after syms earlier x ∷ seen_from syms (earlier ++ x ∷ []) xs
+abbrev pub events_on_stacks_from : SymbolMap → List CountedEvent → List CountedEvent → List EventOnStack
+events_on_stacks_from syms earlier [] = []
+events_on_stacks_from syms earlier (x ∷ xs) = event_on_stack_after syms earlier x ∷ events_on_stacks_from syms (earlier ++ x ∷ []) xs
 
 -- the events of a trace, each with the stack of its thread before it
-abbrev pub seen : SymbolMap → List Counted → List Seen
-seen syms trace = seen_from syms [] trace
+abbrev pub events_on_stacks : SymbolMap → List CountedEvent → List EventOnStack
+events_on_stacks syms trace = events_on_stacks_from syms [] trace

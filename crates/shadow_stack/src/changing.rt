@@ -1,11 +1,11 @@
 //! What an event does to a chain.
 
 ghost use Rattle.std.specs.Prelude.{◌≡◌, ℕ, ◌+◌, ◌<◌, ◌≤◌, ◌∷◌, Some, true};
-ghost use Rattle.event_costs.specs.Arcs.{ToldAll};
+ghost use Rattle.event_costs.specs.Arcs.{TakesAll};
 ghost use Rattle.sym_map.specs.SymbolMap.{place_of, SymbolMap};
-ghost use Rattle.shadow_stack.specs.Changes.{arc_from, change, change_to, entered_at};
-ghost use Rattle.shadow_stack.specs.Changes.{gone, next_func, settle, unchanged};
-ghost use Rattle.shadow_stack.specs.Frames.{count_pushed, frame_of, frames_after, pushed, pushing, stack};
+ghost use Rattle.shadow_stack.specs.Changes.{arc_from, change, change_to, activation_at};
+ghost use Rattle.shadow_stack.specs.Changes.{drop_count, next_func, settle, no_change};
+ghost use Rattle.shadow_stack.specs.Frames.{count_pushed, frame_of, frames_after, pushed_activation, pushing, stack};
 ghost use Rattle.shadow_stack.specs.Frames.{StartWithin, tellings};
 ghost use Rattle.shadow_stack.specs.Arenas.{frames, stack_at, LiesIn, ChangesChainOnly};
 ghost use Rattle.shadow_stack.specs.Stacks.{Stack, top_of};
@@ -48,7 +48,7 @@ fn settle(arena: &Arena, head: Head, event: &Event, syms: &SymMap, func: FuncId)
 pub fn goes_on(event: &Event, func: FuncId, next: FuncId) -> bool
     ensures exact { result ≡ goes_on event.now func next }
     ensures change { result ≡ true → (syms : SymbolMap) (s : Stack) → next ≡ next_func syms event.now
-        → top_of s ≡ Some func → change syms event.now s ≡ unchanged s }
+        → top_of s ≡ Some func → change syms event.now s ≡ no_change s }
 {
     if event.ends {
         return false;
@@ -59,7 +59,7 @@ pub fn goes_on(event: &Event, func: FuncId, next: FuncId) -> bool
     }
 }
 
-fn planned(arena: &Arena, head: Head, event: &Event, syms: &SymMap, func: FuncId) -> Plan
+fn plan_change(arena: &Arena, head: Head, event: &Event, syms: &SymMap, func: FuncId) -> Plan
     requires lies { LiesIn arena.now.slots head }
     requires some { 0 < head.depth }
     requires func { func ≡ next_func syms.now event.now }
@@ -107,13 +107,13 @@ fn enter<S: ArcSink>(
     requires lies { LiesIn arena.old.slots head }
     requires some { 0 < head.depth }
     requires tellings { S.can_take sink.old
-        (pushing (Some (entered_at place func kind (stack_at arena.old.slots head)))) }
+        (pushing (Some (activation_at place func kind (stack_at arena.old.slots head)))) }
     ensures lies { LiesIn arena.new.slots result }
     ensures frames { frames arena.new.slots result
-        ≡ frame_of total.now (entered_at place func kind (stack_at arena.old.slots head))
+        ≡ frame_of total.now (activation_at place func kind (stack_at arena.old.slots head))
         ∷ frames arena.old.slots head }
-    ensures told { ToldAll S.told sink.old
-        (pushing (Some (entered_at place func kind (stack_at arena.old.slots head)))) sink.new }
+    ensures told { TakesAll S.takes sink.old
+        (pushing (Some (activation_at place func kind (stack_at arena.old.slots head)))) sink.new }
     ensures chain { ChangesChainOnly arena.old.slots head arena.new.slots result }
     ensures room { arena.new.spare + 1 ≡ arena.old.spare }
 {
@@ -155,17 +155,17 @@ pub fn change<S: ArcSink>(
     ensures lies { LiesIn arena.new.slots result }
     ensures frames { frames arena.new.slots result
         ≡ frames_after syms.now total.now (frames arena.old.slots head) event.now }
-    ensures told { ToldAll S.told sink.old
+    ensures told { TakesAll S.takes sink.old
         (tellings syms.now total.now (frames arena.old.slots head) event.now) sink.new }
     ensures chain { ChangesChainOnly arena.old.slots head arena.new.slots result }
-    ensures room { arena.new.spare + count_pushed (pushed syms.now event.now (frames arena.old.slots head))
-        ≡ arena.old.spare + gone syms.now event.now (stack_at arena.old.slots head) }
+    ensures room { arena.new.spare + count_pushed (pushed_activation syms.now event.now (frames arena.old.slots head))
+        ≡ arena.old.spare + drop_count syms.now event.now (stack_at arena.old.slots head) }
 {
     let func = way.next_func;
     if goes_on(event, arena.top(head).frame.func, func) {
         return head;
     }
-    let plan = planned(arena, head, event, syms, func);
+    let plan = plan_change(arena, head, event, syms, func);
     let kept = close(arena, head, plan.kept.depth, total, sink);
     match plan.pushed {
         Some(kind) => enter(arena, kept, kind, func, way.place, total, sink),

@@ -2,8 +2,8 @@
 
 ghost use Rattle.std.specs.Prelude.{◌≡◌, ℕ, ◌+◌, ◌-◌, ◌≤◌, take, drop};
 ghost use Rattle.std.specs.List.{AllZip};
-ghost use Rattle.event_costs.specs.Arcs.{ToldAll};
-ghost use Rattle.shadow_stack.specs.Frames.{closing, closings, StartWithin, restarted};
+ghost use Rattle.event_costs.specs.Arcs.{TakesAll};
+ghost use Rattle.shadow_stack.specs.Frames.{closing, closings, StartWithin, restarted_frames};
 ghost use Rattle.shadow_stack.specs.Arenas.{frames, LiesIn, ChangesChainOnly, LeavesOthers};
 
 use crate::arena::{Arena, Head};
@@ -14,7 +14,7 @@ use event_costs::{ArcSink, Cost};
 fn tell<S: ArcSink>(frame: &Frame, total: &Cost, sink: &mut S)
     requires within { AllZip (λ t s. s ≤ t) total.now frame.now.start }
     requires tellings { S.can_take sink.old (closing total.now frame.now) }
-    ensures { ToldAll S.told sink.old (closing total.now frame.now) sink.new }
+    ensures { TakesAll S.takes sink.old (closing total.now frame.now) sink.new }
 {
     if let Some(arc) = frame.from {
         sink.closed(&arc, &total.minus(&frame.start));
@@ -37,7 +37,7 @@ pub fn close<S: ArcSink>(
     ensures lies { LiesIn arena.new.slots result }
     ensures depth { result.depth ≡ depth }
     ensures frames { frames arena.new.slots result ≡ drop (head.depth - depth) (frames arena.old.slots head) }
-    ensures told { ToldAll S.told sink.old
+    ensures told { TakesAll S.takes sink.old
         (closings total.now (take (head.depth - depth) (frames arena.old.slots head))) sink.new }
     ensures chain { ChangesChainOnly arena.old.slots head arena.new.slots result }
     ensures room { arena.new.spare + depth ≡ arena.old.spare + head.depth }
@@ -57,8 +57,8 @@ pub fn restart<S: ArcSink>(arena: &mut Arena, head: Head, total: &Cost, sink: &m
     requires starts { StartWithin total.now (frames arena.old.slots head) }
     requires tellings { S.can_take sink.old (closings total.now (frames arena.old.slots head)) }
     ensures lies { LiesIn arena.new.slots head }
-    ensures frames { frames arena.new.slots head ≡ restarted total.now (frames arena.old.slots head) }
-    ensures told { ToldAll S.told sink.old (closings total.now (frames arena.old.slots head)) sink.new }
+    ensures frames { frames arena.new.slots head ≡ restarted_frames total.now (frames arena.old.slots head) }
+    ensures told { TakesAll S.takes sink.old (closings total.now (frames arena.old.slots head)) sink.new }
     ensures chain { ChangesChainOnly arena.old.slots head arena.new.slots head }
     ensures room { arena.new.spare ≡ arena.old.spare }
 {

@@ -5,7 +5,7 @@ ghost use Rattle.std.specs.Option.{option_map};
 ghost use Rattle.sym_map.specs.SymbolMap.{is_entry_at};
 ghost use Rattle.shadow_stack.specs.Stacks.{groups, base_of, rest_of, is_top};
 ghost use Rattle.shadow_stack.specs.Changes.{beneath_call, down_to, drop_groups, is_under, is_returned_from};
-ghost use Rattle.shadow_stack.specs.Changes.{left_groups, cut, next_func};
+ghost use Rattle.shadow_stack.specs.Changes.{remaining_groups, cut, next_func};
 ghost use Rattle.shadow_stack.specs.Arenas.{LiesIn, stack_at};
 
 use crate::arena::{Arena, Head};
@@ -160,12 +160,12 @@ fn drop_returned(arena: &Arena, head: Head, event: &Event, syms: &SymMap, func: 
 }
 
 /// The chain without the groups that a jump leaves where no call has its target and its stack pointer.
-fn left_groups(arena: &Arena, head: Head, event: &Event, syms: &SymMap, func: FuncId) -> Head
+fn remaining_groups(arena: &Arena, head: Head, event: &Event, syms: &SymMap, func: FuncId) -> Head
     requires lies { LiesIn arena.now.slots head }
     requires some { 0 < head.depth }
     requires func { func ≡ next_func syms.now event.now }
     ensures groups { groups (stack_at arena.now.slots result)
-        ≡ left_groups syms.now event.now (groups (stack_at arena.now.slots head)) }
+        ≡ remaining_groups syms.now event.now (groups (stack_at arena.now.slots head)) }
     ensures lies { LiesIn arena.now.slots result }
 {
     let group = innermost(arena, head);
@@ -186,6 +186,6 @@ pub fn cut(arena: &Arena, head: Head, event: &Event, syms: &SymMap, func: FuncId
 {
     match beneath_call(arena, head, event) {
         Some(beneath) => beneath,
-        None => left_groups(arena, head, event, syms, func),
+        None => remaining_groups(arena, head, event, syms, func),
     }
 }

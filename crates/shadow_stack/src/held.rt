@@ -21,13 +21,13 @@ pub struct Held<'a> {
 impl<'a> Held<'a> {
     ghost use Rattle.std.specs.Prelude.{◌≡◌, ◌<◌, ◌≤◌, ◌+◌, ◌∷◌, ◌++◌, [], List, IsNone, Some, ◌↔◌, false, true};
     ghost use Rattle.std.specs.Prelude.{length, reverse, slice_get};
-    ghost use Rattle.event_costs.specs.Arcs.{ToldAll};
+    ghost use Rattle.event_costs.specs.Arcs.{TakesAll};
     ghost use Rattle.event_costs.specs.declared.event.Event.{Event as EventValue};
     ghost use Rattle.shadow_stack.specs.Stacks.{Stack, is_rooted, top_of};
-    ghost use Rattle.shadow_stack.specs.Changes.{after, gone, next_func};
+    ghost use Rattle.shadow_stack.specs.Changes.{after, drop_count, next_func};
     ghost use Rattle.sym_map.specs.SymbolMap.{place_of};
     ghost use Rattle.shadow_stack.specs.Traces.{stack_after};
-    ghost use Rattle.shadow_stack.specs.Frames.{closings, count_pushed, frames_after, pushed, restarted, StartWithin};
+    ghost use Rattle.shadow_stack.specs.Frames.{closings, count_pushed, frames_after, pushed_activation, restarted_frames, StartWithin};
     ghost use Rattle.shadow_stack.specs.Frames.{tellings};
     ghost use Rattle.shadow_stack.specs.Arenas.{frames, stack_at, ChangesChainOnly, LeavesOthers};
     ghost use Rattle.shadow_stack.specs.Loans.{SameLoan};
@@ -45,7 +45,7 @@ impl<'a> Held<'a> {
         ensures stack { stack_at self.new.arena.now.slots self.new.head.now
             ≡ after syms.now (stack_at self.old.arena.now.slots self.old.head.now) event.now }
         ensures starts { StartWithin total.now (frames self.new.arena.now.slots self.new.head.now) }
-        ensures told { ToldAll S.told sink.old
+        ensures told { TakesAll S.takes sink.old
             (tellings syms.now total.now (frames self.old.arena.now.slots self.old.head.now) event.now) sink.new }
         ensures chain { ChangesChainOnly self.old.arena.now.slots self.old.head.now
             self.new.arena.now.slots self.new.head.now }
@@ -53,8 +53,8 @@ impl<'a> Held<'a> {
             self.new.arena.now.slots self.new.head.now }
         // Room falls by one where a frame comes, and rises by one for each that goes.
         ensures room { self.new.arena.now.spare
-            + count_pushed (pushed syms.now event.now (frames self.old.arena.now.slots self.old.head.now))
-            ≡ self.old.arena.now.spare + gone syms.now event.now (stack_at self.old.arena.now.slots self.old.head.now) }
+            + count_pushed (pushed_activation syms.now event.now (frames self.old.arena.now.slots self.old.head.now))
+            ≡ self.old.arena.now.spare + drop_count syms.now event.now (stack_at self.old.arena.now.slots self.old.head.now) }
         // The root goes with the thread's end alone, and then all goes.
         ensures root { event.now.ends ≡ false → is_rooted (stack_at self.new.arena.now.slots self.new.head.now) ≡ true }
         ensures end { event.now.ends ≡ true → frames self.new.arena.now.slots self.new.head.now ≡ [] }
@@ -90,7 +90,7 @@ impl<'a> Held<'a> {
         ensures stack { stack_at self.new.arena.now.slots self.new.head.now
             ≡ after syms.now (stack_at self.old.arena.now.slots self.old.head.now) event.now }
         ensures starts { StartWithin total.now (frames self.new.arena.now.slots self.new.head.now) }
-        ensures told { ToldAll S.told sink.old
+        ensures told { TakesAll S.takes sink.old
             (tellings syms.now total.now (frames self.old.arena.now.slots self.old.head.now) event.now) sink.new }
         ensures chain { ChangesChainOnly self.old.arena.now.slots self.old.head.now
             self.new.arena.now.slots self.new.head.now }
@@ -98,8 +98,8 @@ impl<'a> Held<'a> {
             self.new.arena.now.slots self.new.head.now }
         // Room falls by one where a frame comes, and rises by one for each that goes.
         ensures room { self.new.arena.now.spare
-            + count_pushed (pushed syms.now event.now (frames self.old.arena.now.slots self.old.head.now))
-            ≡ self.old.arena.now.spare + gone syms.now event.now (stack_at self.old.arena.now.slots self.old.head.now) }
+            + count_pushed (pushed_activation syms.now event.now (frames self.old.arena.now.slots self.old.head.now))
+            ≡ self.old.arena.now.spare + drop_count syms.now event.now (stack_at self.old.arena.now.slots self.old.head.now) }
         // The root goes with the thread's end alone, and then all goes.
         ensures root { event.now.ends ≡ false → is_rooted (stack_at self.new.arena.now.slots self.new.head.now) ≡ true }
         ensures end { event.now.ends ≡ true → frames self.new.arena.now.slots self.new.head.now ≡ [] }
@@ -121,11 +121,11 @@ impl<'a> Held<'a> {
         requires tellings { S.can_take sink.old
             (closings total.now (frames self.old.arena.now.slots self.old.head.now)) }
         ensures frames { frames self.new.arena.now.slots self.new.head.now
-            ≡ restarted total.now (frames self.old.arena.now.slots self.old.head.now) }
+            ≡ restarted_frames total.now (frames self.old.arena.now.slots self.old.head.now) }
         ensures stack { stack_at self.new.arena.now.slots self.new.head.now
             ≡ stack_at self.old.arena.now.slots self.old.head.now }
         ensures starts { StartWithin total.now (frames self.new.arena.now.slots self.new.head.now) }
-        ensures told { ToldAll S.told sink.old
+        ensures told { TakesAll S.takes sink.old
             (closings total.now (frames self.old.arena.now.slots self.old.head.now)) sink.new }
         ensures head { self.new.head.now ≡ self.old.head.now }
         ensures chain { ChangesChainOnly self.old.arena.now.slots self.old.head.now

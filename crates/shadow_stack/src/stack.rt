@@ -2,12 +2,12 @@
 
 ghost use Rattle.std.specs.Prelude.{◌≡◌, ◌<◌, ◌≤◌, ◌+◌, ◌∷◌, ◌++◌, [], List, IsNone, IfOk, OnOk, Some, None, ◌↔◌};
 ghost use Rattle.std.specs.Prelude.{false, true, length, reverse, slice_get};
-ghost use Rattle.event_costs.specs.Arcs.{ToldAll};
+ghost use Rattle.event_costs.specs.Arcs.{TakesAll};
 ghost use Rattle.event_costs.specs.declared.event.Event.{Event as EventValue};
 ghost use Rattle.shadow_stack.specs.Stacks.{Stack, is_rooted, top_of};
-ghost use Rattle.shadow_stack.specs.Changes.{after, gone};
+ghost use Rattle.shadow_stack.specs.Changes.{after, drop_count};
 ghost use Rattle.shadow_stack.specs.Traces.{stack_after};
-ghost use Rattle.shadow_stack.specs.Frames.{closings, count_pushed, frames_after, pushed, restarted, stack};
+ghost use Rattle.shadow_stack.specs.Frames.{closings, count_pushed, frames_after, pushed_activation, restarted_frames, stack};
 ghost use Rattle.shadow_stack.specs.Frames.{StartWithin, tellings};
 
 use crate::arena::{Arena, Head};
@@ -70,10 +70,10 @@ impl ShadowStack {
         ensures frames { self.new.frames ≡ frames_after syms.now total.now self.old.frames event.now }
         ensures stack { stack self.new.frames ≡ after syms.now (stack self.old.frames) event.now }
         ensures starts { StartWithin total.now self.new.frames }
-        ensures told { ToldAll S.told sink.old (tellings syms.now total.now self.old.frames event.now) sink.new }
+        ensures told { TakesAll S.takes sink.old (tellings syms.now total.now self.old.frames event.now) sink.new }
         // Room falls by one where a frame comes, and rises by one for each that goes.
-        ensures room { self.new.spare + count_pushed (pushed syms.now event.now self.old.frames)
-            ≡ self.old.spare + gone syms.now event.now (stack self.old.frames) }
+        ensures room { self.new.spare + count_pushed (pushed_activation syms.now event.now self.old.frames)
+            ≡ self.old.spare + drop_count syms.now event.now (stack self.old.frames) }
         // The root goes with the thread's end alone, and then all goes.
         ensures root { event.now.ends ≡ false → is_rooted (stack self.new.frames) ≡ true }
         ensures end { event.now.ends ≡ true → self.new.frames ≡ [] }
@@ -91,10 +91,10 @@ impl ShadowStack {
     pub fn restart<S: ArcSink>(&mut self, total: &Cost, sink: &mut S)
         requires starts { StartWithin total.now self.old.frames }
         requires tellings { S.can_take sink.old (closings total.now self.old.frames) }
-        ensures frames { self.new.frames ≡ restarted total.now self.old.frames }
+        ensures frames { self.new.frames ≡ restarted_frames total.now self.old.frames }
         ensures stack { stack self.new.frames ≡ stack self.old.frames }
         ensures starts { StartWithin total.now self.new.frames }
-        ensures told { ToldAll S.told sink.old (closings total.now self.old.frames) sink.new }
+        ensures told { TakesAll S.takes sink.old (closings total.now self.old.frames) sink.new }
         ensures room { self.new.spare ≡ self.old.spare }
     {
         restart(&mut self.arena, self.head, total, sink);

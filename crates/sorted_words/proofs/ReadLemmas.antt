@@ -19,14 +19,14 @@ use Rattle.clap.specs.declared.builder.value_parser.Reading.{Reading}
 use Rattle.clap.specs.declared.builder.value_parser.Reading.TheVariants.{AsWritten}
 use Rattle.clap.specs.declared.error.kind.ErrorKind.TheVariants.{InvalidValue, UnknownArgument}
 use Rattle.clap.specs.declared.parser.matches.ValueSource.TheVariants.{CommandLine}
-use Rattle.sorted_words.specs.Sorting.{Sorted, Text, Word, apart, end, fault, has_value, is_among, is_value, joined}
-use Rattle.sorted_words.specs.Sorting.{name_of, option_word, sorted, sorted_word, value_of, with_option, with_value}
+use Rattle.sorted_words.specs.Sorting.{SortedCommand, Text, Word, apart, end, fault, has_value, is_among, is_value, joined}
+use Rattle.sorted_words.specs.Sorting.{name_of, option_word, sort_words, sorted_word, value_of, with_option, with_value}
 use Rattle.sorted_words.specs.Sorting.{word_of}
 use Rattle.sorted_words.specs.Sorting.{value as value_word}
 use Rattle.sorted_words.specs.inner.Builder.{values_id}
 use Rattle.sorted_words.proofs.RowLemmas.{Adds, adds_nothing, adds_option, adds_value, text_is_itself}
 use Rattle.sorted_words.proofs.RuleLemmas.{IsBuilt, built_option, built_values}
-use Rattle.sorted_words.proofs.WordLemmas.{Seen, dashes, flags_begin, ends, long, seen, short, stands}
+use Rattle.sorted_words.proofs.WordLemmas.{WordCase, dashes, flags_begin, ends, long, word_case, short, stands}
 
 pub first_none : (a b : Kinds) → or_else a b ≡ [] → a ≡ []
 first_none [] b none = refl
@@ -94,18 +94,18 @@ module _ (s : Shape) (names : List Text) (built : IsBuilt s.rules names) where
       (fold (walked s.rules []) (walked s.rules [] w word) words).held) none))
 
   -- the words were refused, or sorted so
-  abbrev pub Agrees : List Row → Kinds → List Row → Option Sorted → Type 0
+  abbrev pub Agrees : List Row → Kinds → List Row → Option SortedCommand → Type 0
   Agrees before kinds after None = kinds ≡ [] → ⊥
   Agrees before kinds after (Some more) = (kinds ≡ []) × Adds names before after more
 
-  agrees_value : (how : Reading) (before after : List Row) (kinds : Kinds) (word : Text) (rest : Option Sorted)
+  agrees_value : (how : Reading) (before after : List Row) (kinds : Kinds) (word : Text) (rest : Option SortedCommand)
       → Agrees (with_values values_id how CommandLine (word ∷ []) before) kinds after rest
       → Agrees before kinds after (with_value word rest)
   agrees_value how before after kinds word None h = h
   agrees_value how before after kinds word (Some more) h =
       (h.0, adds_value names built.unnamed how CommandLine before after word more h.1)
 
-  agrees_option : (how : Reading) (before after : List Row) (kinds : Kinds) (name word : Text) (rest : Option Sorted)
+  agrees_option : (how : Reading) (before after : List Row) (kinds : Kinds) (name word : Text) (rest : Option SortedCommand)
       → is_among names name ≡ true
       → Agrees (with_values name how CommandLine (word ∷ []) before) kinds after rest
       → Agrees before kinds after (with_option name word rest)
@@ -113,7 +113,7 @@ module _ (s : Shape) (names : List Text) (built : IsBuilt s.rules names) where
   agrees_option how before after kinds name word (Some more) known h =
       (h.0, adds_option names built.unnamed how CommandLine before after name word more known h.1)
 
-  stepped : (before : List Row) (w after : Walk) (word : Text) (words : List Text) (is : Option Sorted)
+  stepped : (before : List Row) (w after : Walk) (word : Text) (words : List Text) (is : Option SortedCommand)
       → turn_fault s [] w word ≡ []
       → walked s.rules [] w word ≡ after → Agrees before (faults after words) (rows after words) is
       → Agrees before (faults w (word ∷ words)) (rows w (word ∷ words)) is
@@ -365,20 +365,20 @@ module _ (s : Shape) (names : List Text) (built : IsBuilt s.rules names) where
     pub free : (r : List Row) (p : Option (Text × List Text)) (w : Waiting) → IsFree w
         → settle_fault s.rules again (held r p) ≡ []
         → Agrees (settled_rows s.rules p r) (faults (at r p w false) words) (rows (at r p w false) words)
-        (sorted names words None)
+        (sort_words names words None)
     pub lacking : (r : List Row) (name : Text) → is_among names name ≡ true
         → Agrees r (faults (at r (Some (name, [])) (option name) false) words)
         (rows (at r (Some (name, [])) (option name) false) words)
-        (sorted names words (Some name))
+        (sort_words names words (Some name))
 
   module _ (word : Text) (words : List Text) (utf8 : IsUtf8 word) (rest : Reads words) where
     sorted_as : (r : List Row) (w : Walk) (k : Word) → word_of names word ≡ k
-        → Agrees r (faults w (word ∷ words)) (rows w (word ∷ words)) (sorted_word k word words (sorted names words))
-        → Agrees r (faults w (word ∷ words)) (rows w (word ∷ words)) (sorted names (word ∷ words) None)
+        → Agrees r (faults w (word ∷ words)) (rows w (word ∷ words)) (sorted_word k word words (sort_words names words))
+        → Agrees r (faults w (word ∷ words)) (rows w (word ∷ words)) (sort_words names (word ∷ words) None)
     sorted_as r w k is h =
         let P : Word → Type 0
         = λ v. Agrees r (faults w (word ∷ words)) (rows w (word ∷ words))
-        (sorted_word v word words (sorted names words)) in
+        (sorted_word v word words (sort_words names words)) in
         subst P (sym is) h
 
     free_long : (r : List Row) (p : Option (Text × List Text)) (w : Waiting) (text : Text)
@@ -389,7 +389,7 @@ module _ (s : Shape) (names : List Text) (built : IsBuilt s.rules names) where
         (rows (at r p w false) (word ∷ words))
         (sorted_word
         (cond known (cond b (joined (name_of text) (value_of text)) (apart (name_of text))) fault) word words
-        (sorted names words))
+        (sort_words names words))
     free_long r p w text none e3 e4 false off b e =
         turn_fails (at r p w false) word words
         (turn_refused r p w false word (unknown_refused r p w word text e3 e4 off))
@@ -398,7 +398,7 @@ module _ (s : Shape) (names : List Text) (built : IsBuilt s.rules names) where
         let now = with_values (name_of text) AsWritten CommandLine (value_of text ∷ []) there in
         let met = known_met r p w word text true e3 e4 known e in
         stepped there (at r p w false) (at now None idle false) word words
-        (with_option (name_of text) (value_of text) (sorted names words None))
+        (with_option (name_of text) (value_of text) (sort_words names words None))
         (turn_none r p w false word (held now None) (next idle)
         (known_fault r p w word text true e3 e4 known e
         ∙ ap (λ (k : Kinds). or_else k
@@ -406,12 +406,12 @@ module _ (s : Shape) (names : List Text) (built : IsBuilt s.rules names) where
         (walked_to r p w false word (held now None) (next idle) met)
         (agrees_option AsWritten there (rows (at now None idle false) words) (faults (at now None idle false) words)
         (name_of text) (value_of text)
-        (sorted names words None) known (rest.free now None idle tt refl))
+        (sort_words names words None) known (rest.free now None idle tt refl))
     free_long r p w text none e3 e4 true known false e =
         let there = settled_rows s.rules p r in
         let met = known_met r p w word text false e3 e4 known e in
         stepped there (at r p w false) (at there (Some (name_of text, [])) (option (name_of text)) false) word words
-        (sorted names words (Some (name_of text)))
+        (sort_words names words (Some (name_of text)))
         (turn_none r p w false word (held there (Some (name_of text, []))) (next (option (name_of text)))
         (known_fault r p w word text false e3 e4 known e ∙ none) met refl)
         (walked_to r p w false word (held there (Some (name_of text, []))) (next (option (name_of text))) met)
@@ -419,10 +419,10 @@ module _ (s : Shape) (names : List Text) (built : IsBuilt s.rules names) where
 
     free_word : (r : List Row) (p : Option (Text × List Text)) (w : Waiting) → IsFree w
         → settle_fault s.rules again (held r p) ≡ []
-        → Seen names word
+        → WordCase names word
         → Agrees (settled_rows s.rules p r) (faults (at r p w false) (word ∷ words))
         (rows (at r p w false) (word ∷ words))
-        (sorted names (word ∷ words) None)
+        (sort_words names (word ∷ words) None)
     free_word r p w free none (ends e1 e2 e3) =
         let there = settled_rows s.rules p r in
         sorted_as there (at r p w false) end e1
@@ -445,13 +445,13 @@ module _ (s : Shape) (names : List Text) (built : IsBuilt s.rules names) where
         ∙ ap (λ (o : Option Text). option_map_or (λ f. bundle_fault s.rules again f (held r p)) o []) e5 in
         let next_read = rest.free there (Some (values_id, word ∷ [])) positional tt (values_settle there word) in
         let more : Agrees (with_values values_id AsWritten CommandLine (word ∷ []) there) (faults now words)
-        (rows now words) (sorted names words None) =
+        (rows now words) (sort_words names words None) =
         rw (← values_stand there word) next_read in
         sorted_as there (at r p w false) value_word e1
-        (stepped there (at r p w false) now word words (with_value word (sorted names words None))
+        (stepped there (at r p w false) now word words (with_value word (sort_words names words None))
         (turn_none r p w false word (held r p) value passes met (values_take r p none))
         (walked_to r p w false word (held r p) value met ∙ to_values r p w false word false refl)
-        (agrees_value AsWritten there (rows now words) (faults now words) word (sorted names words None) more))
+        (agrees_value AsWritten there (rows now words) (faults now words) word (sort_words names words None) more))
     free_word r p w free none (long text e1 e2 e3 e4) =
         let there = settled_rows s.rules p r in
         sorted_as there (at r p w false) (option_word names text) e1
@@ -466,12 +466,12 @@ module _ (s : Shape) (names : List Text) (built : IsBuilt s.rules names) where
 
     lacking_as : (r : List Row) (w : Walk) (name : Text) (b : Bool) → is_value word ≡ b
         → Agrees r (faults w (word ∷ words)) (rows w (word ∷ words))
-        (cond b (with_option name word (sorted names words None)) None)
-        → Agrees r (faults w (word ∷ words)) (rows w (word ∷ words)) (sorted names (word ∷ words) (Some name))
+        (cond b (with_option name word (sort_words names words None)) None)
+        → Agrees r (faults w (word ∷ words)) (rows w (word ∷ words)) (sort_words names (word ∷ words) (Some name))
     lacking_as r w name b is h =
         let P : Bool → Type 0
         = λ v. Agrees r (faults w (word ∷ words)) (rows w (word ∷ words))
-        (cond v (with_option name word (sorted names words None)) None) in
+        (cond v (with_option name word (sort_words names words None)) None) in
         subst P (sym is) h
 
     -- an option is no VALUE
@@ -490,9 +490,9 @@ module _ (s : Shape) (names : List Text) (built : IsBuilt s.rules names) where
         option_lacks r name among
         (sym (known_fault r (Some (name, [])) (option name) word text false e3 e4 known e) ∙ none)
 
-    lacking_word : (r : List Row) (name : Text) → is_among names name ≡ true → Seen names word
+    lacking_word : (r : List Row) (name : Text) → is_among names name ≡ true → WordCase names word
         → Agrees r (faults (at r (Some (name, [])) (option name) false) (word ∷ words))
-        (rows (at r (Some (name, [])) (option name) false) (word ∷ words)) (sorted names (word ∷ words) (Some name))
+        (rows (at r (Some (name, [])) (option name) false) (word ∷ words)) (sort_words names (word ∷ words) (Some name))
     lacking_word r name known (ends e1 e2 e3) =
         let here = at r (Some (name, [])) (option name) false in
         let met = met_end (option name) word (held r (Some (name, []))) e3 in
@@ -516,13 +516,13 @@ module _ (s : Shape) (names : List Text) (built : IsBuilt s.rules names) where
         ∙ ap (λ (o : Option Text). option_map_or (λ f. bundle_fault s.rules again f h) o []) e5 in
         let next_read = rest.free r (Some (name, word ∷ [])) idle tt (option_settle r name word known) in
         let more : Agrees (with_values name AsWritten CommandLine (word ∷ []) r) (faults now words) (rows now words)
-        (sorted names words None) =
+        (sort_words names words None) =
         rw (← option_stands r name word known) next_read in
         lacking_as r (at r p (option name) false) name true e2
-        (stepped r (at r p (option name) false) now word words (with_option name word (sorted names words None))
+        (stepped r (at r p (option name) false) now word words (with_option name word (sort_words names words None))
         (turn_none r p (option name) false word (held r (Some (name, word ∷ []))) (next idle) passes met refl)
         (walked_to r p (option name) false word (held r (Some (name, word ∷ []))) (next idle) met)
-        (agrees_option AsWritten r (rows now words) (faults now words) name word (sorted names words None) known more))
+        (agrees_option AsWritten r (rows now words) (faults now words) name word (sort_words names words None) known more))
       where
         taken : (r : List Row) (name : Text) → is_among names name ≡ true
             → plain_word s.rules (option name) word (held r (Some (name, [])))
@@ -557,6 +557,6 @@ module _ (s : Shape) (names : List Text) (built : IsBuilt s.rules names) where
   pub reading : (words : List Text) → AreTexts words → Reads words
   reading [] texts = reading_none
   reading (word ∷ words) texts = record {
-    free = λ r p w free none. free_word word words texts.0 (reading words texts.1) r p w free none (seen names word);
-    lacking = λ r name known. lacking_word word words texts.0 (reading words texts.1) r name known (seen names word);
+    free = λ r p w free none. free_word word words texts.0 (reading words texts.1) r p w free none (word_case names word);
+    lacking = λ r name known. lacking_word word words texts.0 (reading words texts.1) r name known (word_case names word);
   }

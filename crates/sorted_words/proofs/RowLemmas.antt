@@ -10,8 +10,8 @@ use Rattle.clap.specs.declared.parser.matches.Found.{Found}
 use Rattle.clap.proofs.WalkLemmas.{raw_values-rows}
 use Rattle.clap.specs.declared.builder.value_parser.Reading.{Reading}
 use Rattle.clap.specs.declared.parser.matches.ValueSource.{ValueSource}
-use Rattle.sorted_words.specs.Given.{found, under}
-use Rattle.sorted_words.specs.Sorting.{Sorted, Text, is_among, uses}
+use Rattle.sorted_words.specs.SortedWords.{find_values, under}
+use Rattle.sorted_words.specs.Sorting.{SortedCommand, Text, is_among, uses}
 use Rattle.sorted_words.specs.inner.Builder.{values_id}
 use Rattle.sorted_words.specs.inner.Matches.{entries}
 
@@ -51,7 +51,7 @@ under_other id other how s vs (r ∷ rs) apart =
     go false e false f more = rw (e, f) more
 
 -- `after` has what `before` has, and then what was sorted
-pub record Adds (names : List Text) (before after : List Row) (more : Sorted) : Type 0 where
+pub record Adds (names : List Text) (before after : List Row) (more : SortedCommand) : Type 0 where
   pub options : (name : Text) → is_among names name ≡ true
       → under name (entries after) ≡ under name (entries before) ++ uses name more.options
   pub values : under values_id (entries after) ≡ under values_id (entries before) ++ more.values
@@ -80,7 +80,7 @@ texts_apart_too names a b among off = go (bytes_eq b a) refl
     go true e = absurd (true≢false (sym among ∙ ap (λ (x : Text). is_among names x) (sym (same_text b a e)) ∙ off))
 
 module _ (names : List Text) (unnamed : is_among names values_id ≡ false) (how : Reading) (s : ValueSource) where
-  pub adds_value : (before after : List Row) (word : Text) (more : Sorted)
+  pub adds_value : (before after : List Row) (word : Text) (more : SortedCommand)
       → Adds names (with_values values_id how s (word ∷ []) before) after more
       → Adds names before after (record more { values = word ∷ more.values })
   adds_value before after word more h = record {
@@ -92,7 +92,7 @@ module _ (names : List Text) (unnamed : is_among names values_id ≡ false) (how
         ∙ append_assoc (under values_id (entries before)) (word ∷ []) more.values;
   }
 
-  pub adds_option : (before after : List Row) (name word : Text) (more : Sorted) → is_among names name ≡ true
+  pub adds_option : (before after : List Row) (name word : Text) (more : SortedCommand) → is_among names name ≡ true
       → Adds names (with_values name how s (word ∷ []) before) after more
       → Adds names before after (record more { options = (name, word) ∷ more.options })
   adds_option before after name word more known h = record {
@@ -118,14 +118,14 @@ module _ (names : List Text) (unnamed : is_among names values_id ≡ false) (how
           ∙ ap (λ (xs : List Text). xs ++ uses other more.options) (under_other name other how s (word ∷ []) before e))
 
 -- what `clap` has under an id
-all_found : (id : Text) (rows : List Row) → all_of id rows ≡ found id (entries rows)
+all_found : (id : Text) (rows : List Row) → all_of id rows ≡ find_values id (entries rows)
 all_found id [] = refl
 all_found id (r ∷ rs) = go (bytes_eq r.id id) refl (all_found id rs)
   where
-    go : (b : Bool) → bytes_eq r.id id ≡ b → all_of id rs ≡ found id (entries rs)
-        → all_of id (r ∷ rs) ≡ found id (entries (r ∷ rs))
+    go : (b : Bool) → bytes_eq r.id id ≡ b → all_of id rs ≡ find_values id (entries rs)
+        → all_of id (r ∷ rs) ≡ find_values id (entries (r ∷ rs))
     go true e more = rw e refl
     go false e more = rw e more
 
-pub strs_found : (f : Found) (id : Text) → option_map raw_values (matched_of f id) ≡ found id (entries (rows_of f))
+pub strs_found : (f : Found) (id : Text) → option_map raw_values (matched_of f id) ≡ find_values id (entries (rows_of f))
 strs_found f id = raw_values-rows f id ∙ all_found id (rows_of f)

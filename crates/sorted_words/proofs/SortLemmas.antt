@@ -23,18 +23,18 @@ use Rattle.clap.specs.Values.{kind_of}
 use Rattle.clap.specs.declared.error.Error.{Error}
 use Rattle.clap.specs.declared.error.kind.ErrorKind.{ErrorKind}
 use Rattle.clap.proofs.WalkLemmas.{both, walk_stopped}
-use Rattle.sorted_words.specs.Sorting.{Sorted, Syntax, Text, is_among, sorted, sorting, syntax_named}
-use Rattle.sorted_words.specs.Given.{IsSorting, has_named_options}
+use Rattle.sorted_words.specs.Sorting.{SortedCommand, Syntax, Text, is_among, sort_words, sorting, syntax_named}
+use Rattle.sorted_words.specs.SortedWords.{IsSorting, has_named_options}
 use Rattle.sorted_words.specs.Syntaxes.{syntax_of}
 use Rattle.sorted_words.specs.declared.syntax.Syntax as code
 use Rattle.sorted_words.specs.inner.Builder.{app, has_none, values_id}
-use Rattle.sorted_words.specs.inner.Matches.{given_of}
+use Rattle.sorted_words.specs.inner.Matches.{sorted_words_of}
 use Rattle.sorted_words.proofs.AppLemmas.{app_built, app_simple, built_app, built_sub, built_top, has_that_name}
 use Rattle.sorted_words.proofs.AppLemmas.{labels_found, subs_found}
 use Rattle.sorted_words.proofs.ReadLemmas.{Agrees, AreTexts, at, faults, first_none, reading, rows}
 use Rattle.sorted_words.proofs.RowLemmas.{Adds}
 use Rattle.sorted_words.proofs.RuleLemmas.{IsBuilt, is_built}
-use Rattle.sorted_words.proofs.WordLemmas.{Seen, dashes, ends, flags_begin, long, seen, short, stands}
+use Rattle.sorted_words.proofs.WordLemmas.{WordCase, dashes, ends, flags_begin, long, word_case, short, stands}
 
 nothing_else : (k : Kinds) → or_else k [] ≡ k
 nothing_else [] = refl
@@ -76,14 +76,14 @@ module _ (command : Syntax) (unnamed : is_among command.options values_id ≡ fa
   pub command_reads : (words : List Text) → AreTexts words
       → Agrees (built_sub command) command.options built []
       (level_fault (built_sub command) [] nothing_held words false [])
-      (rows_after (built_sub command).rules [] words) (sorted command.options words None)
+      (rows_after (built_sub command).rules [] words) (sort_words command.options words None)
   command_reads words texts =
       let read = (reading (built_sub command) command.options built words texts).free [] None idle tt refl in
       let P : Kinds → Type 0 = λ k. Agrees (built_sub command) command.options built [] k
-      (rows_after (built_sub command).rules [] words) (sorted command.options words None) in
+      (rows_after (built_sub command).rules [] words) (sort_words command.options words None) in
       let Q : List Row → Type 0 = λ r. Agrees (built_sub command) command.options built []
       (faults (built_sub command) command.options built (at [] None idle false) words) r
-      (sorted command.options words None) in
+      (sort_words command.options words None) in
       subst P (sym (level_is words)) (subst Q (sym (rows_are words)) read)
 
 -- ---- the word that names a command
@@ -99,11 +99,11 @@ stopped name words = record {
 }
 
 module _ (none : Bool) (names : Names) where
-  no_more_faults : (name : Text) (words seen : List Text)
-      → walk_fault (built_top none) names (stopped name seen) words ≡ []
+  no_more_faults : (name : Text) (words word_case : List Text)
+      → walk_fault (built_top none) names (stopped name word_case) words ≡ []
   unfolding walk_fault walked
-  no_more_faults name [] seen = refl
-  no_more_faults name (word ∷ words) seen = no_more_faults name words (seen ++ word ∷ [])
+  no_more_faults name [] word_case = refl
+  no_more_faults name (word ∷ words) word_case = no_more_faults name words (word_case ++ word ∷ [])
 
   module _ (word name : Text) (found : subcommand_met names idle word ≡ Some name) where
     met_command : word_met [] names false idle 1 word nothing_held ≡ (nothing_held, subcommand name)
@@ -270,7 +270,7 @@ module _ (commands : List Syntax) where
     behind [] = refl
     behind (word ∷ rest) = behind rest
 
-    unnamed_fails : IsUtf8 name → Seen [] name → built_fault (built_app commands) nothing_held (name ∷ words) ≡ [] → ⊥
+    unnamed_fails : IsUtf8 name → WordCase [] name → built_fault (built_app commands) nothing_held (name ∷ words) ≡ [] → ⊥
     unfolding walked flags_fault
     unnamed_fails utf8 (ends e1 e2 e3) =
         let met : word_met [] names false idle 1 name nothing_held ≡ (nothing_held, trailing 1) =
@@ -336,16 +336,16 @@ named_one (command ∷ commands) named name c e =
     go false other more = more (rw other at e)
 
 -- the words were refused, or sorted so
-abbrev pub Sorts : Kinds → Option (Text × List Row) → Option (Syntax × Sorted) → Type 0
+abbrev pub Sorts : Kinds → Option (Text × List Row) → Option (Syntax × SortedCommand) → Type 0
 Sorts kinds found None = kinds ≡ [] → ⊥
 Sorts kinds found (Some p) = (kinds ≡ []) × (after : List Row) × (found ≡ Some (p.0.name, after))
     × Adds p.0.options [] after p.1
 
-sorts_command : (c : Syntax) (unnamed : is_among c.options values_id ≡ false) (words : List Text) (read : Option Sorted)
+sorts_command : (c : Syntax) (unnamed : is_among c.options values_id ≡ false) (words : List Text) (read : Option SortedCommand)
     → Agrees (built_sub c) c.options (built c unnamed) [] (level_fault (built_sub c) [] nothing_held words false [])
     (rows_after (built_sub c).rules [] words) read
     → Sorts (level_fault (built_sub c) [] nothing_held words false []) (Some (rows_at (built_sub c) words))
-    (option_map (λ (r : Sorted). (c, r)) read)
+    (option_map (λ (r : SortedCommand). (c, r)) read)
 sorts_command c unnamed words None h = h
 sorts_command c unnamed words (Some more) h = (h.0, rows_after (built_sub c).rules [] words, refl, h.1)
 
@@ -354,17 +354,17 @@ sorts_behind : (commands : List Syntax) → AreNamed commands → (name : Text) 
     → (o : Option Syntax) → syntax_named commands name ≡ o
     → Sorts (built_fault (built_app commands) nothing_held (name ∷ words))
     (entered (built_app commands) (stop_after [] (names_of (built_app commands)) (name ∷ words)))
-    (option_and_then (λ (c : Syntax). option_map (λ (r : Sorted). (c, r)) (sorted c.options words None)) o)
+    (option_and_then (λ (c : Syntax). option_map (λ (r : SortedCommand). (c, r)) (sort_words c.options words None)) o)
 sorts_behind commands named name words utf8 texts None e =
     unnamed_fails commands name words
     (ap (option_map (λ (s : Text × List Text). s.0)) (labels_found commands name)
     ∙ ap (λ (o : Option Syntax). option_map (λ (s : Text × List Text). s.0)
     (option_map (λ (x : Syntax). (x.name, [])) o)) e)
-    utf8 (seen [] name)
+    utf8 (word_case [] name)
 sorts_behind commands named name words utf8 texts (Some c) e =
     let unnamed = named_one commands named name c e in
-    let read = sorts_command c unnamed words (sorted c.options words None) (command_reads c unnamed words texts) in
-    let result = option_map (λ (r : Sorted). (c, r)) (sorted c.options words None) in
+    let read = sorts_command c unnamed words (sort_words c.options words None) (command_reads c unnamed words texts) in
+    let result = option_map (λ (r : SortedCommand). (c, r)) (sort_words c.options words None) in
     let P : Kinds → Type 0
     = λ k. Sorts k
     (entered (built_app commands) (stop_after [] (names_of (built_app commands)) (name ∷ words))) result in
@@ -420,17 +420,17 @@ words_sort commands words named =
     sorts (map syntax_of commands) (are_named commands named) (map (λ word. string_bytes word) words) (are_texts words)
 
 -- words that `clap` took
-pub taken : (kinds : Kinds) (found : Option (Text × List Row)) (sorting : Option (Syntax × Sorted))
+pub taken : (kinds : Kinds) (found : Option (Text × List Row)) (sorting : Option (Syntax × SortedCommand))
     → Sorts kinds found sorting → kinds ≡ []
-    → IsSorting sorting (option_map (λ (f : Text × List Row). given_of f.0 f.1) found)
+    → IsSorting sorting (option_map (λ (f : Text × List Row). sorted_words_of f.0 f.1) found)
 taken kinds found None refused none = absurd (refused none)
 taken kinds found (Some (syntax, sorted)) h none =
     let P : Option (Text × List Row) → Type 0
-    = λ f. IsSorting (Some (syntax, sorted)) (option_map (λ (x : Text × List Row). given_of x.0 x.1) f) in
+    = λ f. IsSorting (Some (syntax, sorted)) (option_map (λ (x : Text × List Row). sorted_words_of x.0 x.1) f) in
     subst P (sym h.2) (refl, record { options = h.3.options; values = h.3.values })
 
 -- words that it refused
-pub refused : (kinds : Kinds) (found : Option (Text × List Row)) (sorting : Option (Syntax × Sorted)) (k : ErrorKind)
+pub refused : (kinds : Kinds) (found : Option (Text × List Row)) (sorting : Option (Syntax × SortedCommand)) (k : ErrorKind)
     → Sorts kinds found sorting
     → (k ≡ OutOfMemory → ⊥) → (k ≡ OutOfMemory) ⊎ IsAmong k kinds → IsSorting sorting None
 refused kinds found None k h memory among = tt
@@ -448,12 +448,12 @@ pub took : (commands : List code.Syntax) (words : List (String Global)) (told : 
     → (is_simple_and_free told ≡ true → fault_of told (texts_of words) ≡ [])
     → (is_simple told ≡ true → found ≡ subcommand_of told (texts_of words))
     → IsSorting (sorting (map syntax_of commands) (texts_of words))
-    (option_map (λ (f : Text × List Row). given_of f.0 f.1) found)
+    (option_map (λ (f : Text × List Row). sorted_words_of f.0 f.1) found)
 took commands words told found named is none finds =
     let simple : is_simple_and_free told ≡ true = ap is_simple_and_free is ∙ app_simple (map syntax_of commands) in
     let S = sorting (map syntax_of commands) (texts_of words) in
     let P : Option (Text × List Row) → Type 0
-    = λ f. IsSorting S (option_map (λ (x : Text × List Row). given_of x.0 x.1) f) in
+    = λ f. IsSorting S (option_map (λ (x : Text × List Row). sorted_words_of x.0 x.1) f) in
     subst P
     (sym (finds (both (is_simple told) (is_free_app (built_by told)) simple).0
     ∙ ap (λ (a : App). subcommand_of a (texts_of words)) is))

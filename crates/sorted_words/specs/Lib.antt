@@ -1,4 +1,4 @@
-pub mod Given
+pub mod SortedWords
 pub mod Sorting
 pub mod Syntaxes
 pub mod inner

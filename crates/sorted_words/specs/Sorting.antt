@@ -13,7 +13,7 @@ pub record Syntax : Type 0 where
   pub options : List Text
 
 -- what stands in the words after the command: options, each a NAME with its VALUE, and values
-pub record Sorted : Type 0 where
+pub record SortedCommand : Type 0 where
   pub options : List (Text × Text)
   pub values : List Text
 
@@ -63,14 +63,14 @@ word_of names word =
     else (if is_value word then value
     else (if starts_with nat_eq word (codes "--") then option_word names (drop 2 word) else fault))
 
-abbrev pub with_value : Text → Option Sorted → Option Sorted
-with_value word = option_map {T = Sorted} (λ rest. record rest { values = word ∷ rest.values })
+abbrev pub with_value : Text → Option SortedCommand → Option SortedCommand
+with_value word = option_map {T = SortedCommand} (λ rest. record rest { values = word ∷ rest.values })
 
-abbrev pub with_option : Text → Text → Option Sorted → Option Sorted
-with_option name word = option_map {T = Sorted} (λ rest. record rest { options = (name, word) ∷ rest.options })
+abbrev pub with_option : Text → Text → Option SortedCommand → Option SortedCommand
+with_option name word = option_map {T = SortedCommand} (λ rest. record rest { options = (name, word) ∷ rest.options })
 
 -- `rest` is how the words behind this one are read, where that NAME waits for its VALUE
-abbrev pub sorted_word : Word → Text → List Text → (Option Text → Option Sorted) → Option Sorted
+abbrev pub sorted_word : Word → Text → List Text → (Option Text → Option SortedCommand) → Option SortedCommand
 sorted_word end word words rest = Some (record { options = []; values = words })
 sorted_word value word words rest = with_value word (rest None)
 sorted_word (apart name) word words rest = rest (Some name)
@@ -79,20 +79,20 @@ sorted_word fault word words rest = None
 
 -- The words after the command are read in their order, up to the first `--`, behind which every word is a value. A NAME
 -- that waits takes the next word as its VALUE, if that is a value.
-abbrev pub sorted : List Text → List Text → Option Text → Option Sorted
-sorted names [] None = Some (record { options = []; values = [] })
-sorted names [] (Some name) = None
-sorted names (word ∷ words) None = sorted_word (word_of names word) word words (sorted names words)
-sorted names (word ∷ words) (Some name) =
-    if is_value word then with_option name word (sorted names words None) else None
+abbrev pub sort_words : List Text → List Text → Option Text → Option SortedCommand
+sort_words names [] None = Some (record { options = []; values = [] })
+sort_words names [] (Some name) = None
+sort_words names (word ∷ words) None = sorted_word (word_of names word) word words (sort_words names words)
+sort_words names (word ∷ words) (Some name) =
+    if is_value word then with_option name word (sort_words names words None) else None
 
 -- the command of this name
 abbrev pub syntax_named : List Syntax → Text → Option Syntax
 syntax_named commands name = find (λ command. bytes_eq command.name name) commands
 
 -- The first word is passed over, the second is the name of a command.
-abbrev pub sorting : List Syntax → List Text → Option (Syntax × Sorted)
+abbrev pub sorting : List Syntax → List Text → Option (Syntax × SortedCommand)
 sorting commands (own ∷ name ∷ words) =
-    option_and_then (λ command. option_map (λ rest. (command, rest)) (sorted command.options words None))
+    option_and_then (λ command. option_map (λ rest. (command, rest)) (sort_words command.options words None))
     (syntax_named commands name)
 sorting commands _ = None

@@ -2,10 +2,10 @@
 #![tactic(auto)]
 
 mod builder;
-mod given;
+mod sorted;
 mod syntax;
 mod words;
 
-pub use given::Given;
+pub use sorted::SortedWords;
 pub use syntax::Syntax;
 pub use words::sort;

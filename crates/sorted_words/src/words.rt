@@ -3,17 +3,17 @@
 ghost use Rattle.std.specs.Prelude.{◌≡◌, IfOk, map, option_map, string_bytes, true};
 ghost use Rattle.std.specs.List.{list_all};
 ghost use Rattle.clap.specs.Simple.{subcommand_rows_of};
-ghost use Rattle.sorted_words.specs.inner.Matches.{given_of};
-ghost use Rattle.sorted_words.specs.Given.{IsSorting, has_named_options};
+ghost use Rattle.sorted_words.specs.inner.Matches.{sorted_words_of};
+ghost use Rattle.sorted_words.specs.SortedWords.{IsSorting, has_named_options};
 ghost use Rattle.sorted_words.specs.Sorting.{sorting};
 ghost use Rattle.sorted_words.specs.Syntaxes.{syntax_of};
 
 use crate::builder::program;
-use crate::given::Given;
+use crate::sorted::SortedWords;
 use crate::syntax::Syntax;
+use byte_text::OutOfMemory;
 use clap::ArgMatches;
 use clap::error::ErrorKind;
-use byte_text::OutOfMemory;
 use std::alloc::Global;
 
 /// Sorts the words of a command line, the first of which is the program's own name. `None` where they are none of these
@@ -22,13 +22,13 @@ pub fn sort<'a>(
     alloc: Global,
     commands: &[Syntax<'a>],
     words: &'a [String],
-) -> Result<Option<Given<'a>>, OutOfMemory>
+) -> Result<Option<SortedWords<'a>>, OutOfMemory>
     requires { list_all (λ command. has_named_options (syntax_of command)) commands.now ≡ true }
     ensures { IfOk result
         (IsSorting (sorting (map syntax_of commands.now) (map (λ word. string_bytes word) words.entry.now))) }
 {
     match program(alloc, commands)?.try_get_matches_from(words) {
-        Ok(matches) => Ok(given(matches)),
+        Ok(matches) => Ok(behind_command(matches)),
         Err(error) => match error.kind() {
             ErrorKind::OutOfMemory => Err(OutOfMemory::of_library()),
             _ => Ok(None),
@@ -37,9 +37,9 @@ pub fn sort<'a>(
 }
 
 /// What stands behind the name of the command.
-fn given(mut matches: ArgMatches<'_>) -> Option<Given<'_>>
-    ensures { result ≡ option_map (λ found. given_of found.0 found.1) (subcommand_rows_of matches.entry) }
+fn behind_command(mut matches: ArgMatches<'_>) -> Option<SortedWords<'_>>
+    ensures { result ≡ option_map (λ found. sorted_words_of found.0 found.1) (subcommand_rows_of matches.entry) }
 {
     let (command, found) = matches.remove_subcommand()?;
-    Some(Given::new(command, found))
+    Some(SortedWords::new(command, found))
 }

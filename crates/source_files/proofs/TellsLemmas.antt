@@ -4,8 +4,8 @@ use Rattle.std.proofs.Common.{Option, Result, Ok, Err, refl, sym, ap, subst, ◌
 use Rattle.std.specs.Result.{IsErr}
 use Rattle.std.proofs.lemmas.List.{append-nil, map-append, take-append-drop, take_more}
 use Rattle.std.proofs.Math.Seq.{drop-cons}
-use Rattle.outside.specs.Told.{Call, TellsMore}
-use Rattle.outside.proofs.ToldLemmas.{tells_nothing_more, tells_then}
+use Rattle.outside.specs.Journal.{Call, TellsMore}
+use Rattle.outside.proofs.JournalLemmas.{tells_nothing_more, tells_then}
 use Rattle.byte_text.specs.declared.memory.OutOfMemory.{OutOfMemory}
 use Rattle.annotate.specs.Report.{SourceTexts}
 use Rattle.annotate.specs.declared.source.Source.{Source}

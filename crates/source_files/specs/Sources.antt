@@ -5,7 +5,7 @@ use Rattle.std.specs.Str.{is_utf8}
 use Rattle.byte_text.specs.Memory.{memory}
 use Rattle.byte_text.specs.declared.memory.OutOfMemory.{OutOfMemory}
 use Rattle.outside.specs.Files.{Files, file}
-use Rattle.byte_text.specs.Names.{cleaned}
+use Rattle.byte_text.specs.Names.{clean_name}
 use Rattle.outside.specs.declared.folder.LoadError.TheVariants as load
 use Rattle.annotate.specs.Report.{SourceTexts}
 use Rattle.annotate.specs.declared.source.Source.{Source}
@@ -13,7 +13,7 @@ use Rattle.annotate.specs.declared.source.Source.TheVariants.{Found, Missing, To
 use Rattle.profile_files.specs.Loads.{IsLoad}
 use Rattle.outside.specs.Limits.{text_limit}
 use Rattle.outside.specs.Load.{Load}
-use Rattle.outside.specs.Told.{Call, Loaded, TellsMore}
+use Rattle.outside.specs.Journal.{Call, Loaded, TellsMore}
 
 -- the most bytes that a source text may have
 abbrev pub source_limit : ℕ
@@ -21,7 +21,7 @@ source_limit = text_limit
 
 -- the name under which the folder is asked for a file: the file's text where that is UTF-8, else its cleaned form
 abbrev pub folder_name : List ℕ → List ℕ
-folder_name text = if is_utf8 text then text else cleaned text
+folder_name text = if is_utf8 text then text else clean_name text
 
 -- the load that such a source comes from
 abbrev pub load_behind : Source → Load

@@ -1,7 +1,7 @@
 //! Source texts, loaded from a folder.
 
 ghost use Rattle.std.specs.Prelude.{◌≡◌, ◌≤◌, IfOk};
-ghost use Rattle.byte_text.specs.Names.{cleaned};
+ghost use Rattle.byte_text.specs.Names.{clean_name};
 ghost use Rattle.profile_files.specs.Loads.{IsLoad};
 ghost use Rattle.source_files.specs.Sources.{AreSources, TellsSource, TellsSources, folder_name, load_behind};
 ghost use Rattle.source_files.specs.Sources.{source_limit};

@@ -3,13 +3,13 @@ use Rattle.std.proofs.Common.{◌<◌, ◌^◌, ℕ, List, Option, length, arith
 use Rattle.std.proofs.lemmas.Bool.Decides.{nat_tests}
 use Rattle.event_costs.specs.Keys.{Place}
 use Rattle.sym_map.specs.declared.function.Function.{Function}
-use Rattle.sym_map.specs.AddressMap.{told_by_address}
+use Rattle.sym_map.specs.AddressMap.{lines_by_address}
 use Rattle.sym_map.specs.Ranges.{AddressRanges, address_line}
 use Rattle.sym_map.specs.inner.Maps.{IsMap}
 
 pub address_is_map : (functions : List Function) (files : List (List ℕ)) (entries : List (Option ℕ))
     (ranges : AddressRanges) (unknown : Place) → IsMap functions files entries ranges unknown
-    → IsMap functions files entries (told_by_address ranges) unknown
+    → IsMap functions files entries (lines_by_address ranges) unknown
 address_is_map functions files entries ranges unknown is = record {
   functions_rise = is.functions_rise;
   few_functions = is.few_functions;
@@ -23,8 +23,8 @@ address_is_map functions files entries ranges unknown is = record {
   ranges_rise = record { symbols = is.ranges_rise.symbols; lines = is.ranges_rise.lines };
   symbol_limit = is.symbol_limit;
   line_limit = is.line_limit;
-  known = λ address small. record {
-    symbol = (is.known address small).symbol;
+  here_known = λ address small. record {
+    symbol = (is.here_known address small).symbol;
     line = some (is.unknown_file);
     line_limit = fits address;
   };

@@ -12,7 +12,7 @@ use Rattle.event_costs.specs.declared.numbers.FuncId.{FuncId}
 use Rattle.sym_map.specs.declared.range.Range.{Range}
 use Rattle.sym_map.specs.declared.range.SymbolHere.{SymbolHere}
 use Rattle.sym_map.specs.Ranges.{symbol_of}
-use Rattle.sym_map.specs.inner.Entries.{entered, enters, start_of_first}
+use Rattle.sym_map.specs.inner.Entries.{entered_func, enters, start_of_first}
 use Rattle.sym_map.proofs.Spans.{or-none}
 
 starts-or : (o p : Option Range)
@@ -38,7 +38,7 @@ first-more ranges i d func lt =
     alone false r = refl
 
 pub unentered : (entries : List (Option ℕ)) (ranges : List Range) (i : ℕ) (d : Range) (func : ℕ) → i < length ranges
-    → entered (get_or ranges i d) ≡ None
+    → entered_func (get_or ranges i d) ≡ None
     → get_or entries func None ≡ start_of_first func (take i ranges)
     → get_or entries func None ≡ start_of_first func (take (i + 1) ranges)
 unentered entries ranges i d func lt none so =
@@ -47,7 +47,7 @@ unentered entries ranges i d func lt none so =
     so ∙ sym (first-more ranges i d func lt ∙ rw no (or-none (start_of_first func (take i ranges))))
 
 pub noted : (entries : List (Option ℕ)) (ranges : List Range) (i : ℕ) (d : Range) (g : FuncId) (func : ℕ)
-    → i < length ranges → g.0 < length entries → entered (get_or ranges i d) ≡ Some g
+    → i < length ranges → g.0 < length entries → entered_func (get_or ranges i d) ≡ Some g
     → get_or entries func None ≡ start_of_first func (take i ranges)
     → get_or (set entries g.0 (option_or (get_or entries g.0 None) (Some (get_or ranges i d).start))) func None
     ≡ start_of_first func (take (i + 1) ranges)
@@ -70,17 +70,17 @@ noted entries ranges i d g func lt within is so =
     (let P : (func ≡ g.0) ⊎ (func ≢ g.0) = grind arith in P)
 
 -- the function that is entered is the range's
-pub entered_symbol : (r : Range) (g : FuncId) → entered r ≡ Some g
-    → (s : SymbolHere) × (symbol_of r.seen ≡ Some s) × (s.func ≡ g) × (s.value ≡ r.start)
-entered_symbol r g is = go (symbol_of r.seen) refl is
+pub entered_symbol : (r : Range) (g : FuncId) → entered_func r ≡ Some g
+    → (s : SymbolHere) × (symbol_of r.cover ≡ Some s) × (s.func ≡ g) × (s.value ≡ r.start)
+entered_symbol r g is = go (symbol_of r.cover) refl is
   where
-    go : (o : Option SymbolHere) → symbol_of r.seen ≡ o
+    go : (o : Option SymbolHere) → symbol_of r.cover ≡ o
         → option_and_then (λ (s : SymbolHere). cond (eqb s.value r.start) (Some s.func) None) o ≡ Some g
-        → (s : SymbolHere) × (symbol_of r.seen ≡ Some s) × (s.func ≡ g) × (s.value ≡ r.start)
+        → (s : SymbolHere) × (symbol_of r.cover ≡ Some s) × (s.func ≡ g) × (s.value ≡ r.start)
     go None at e = absurd (cc)
     go (Some s) at e = tested (eqb s.value r.start) refl e
       where
         tested : (b : Bool) → eqb s.value r.start ≡ b → cond b (Some s.func) None ≡ Some g
-            → (s : SymbolHere) × (symbol_of r.seen ≡ Some s) × (s.func ≡ g) × (s.value ≡ r.start)
+            → (s : SymbolHere) × (symbol_of r.cover ≡ Some s) × (s.func ≡ g) × (s.value ≡ r.start)
         tested true test f = (s, at, cc, grind (arith, nat_tests))
         tested false test f = absurd (cc)

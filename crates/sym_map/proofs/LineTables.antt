@@ -8,17 +8,17 @@ use Rattle.std.proofs.lemmas.List.Elements.{recursion_from_All, All-contains, Al
 use Rattle.std.proofs.lemmas.Option.{slice_get-map, slice_get-get_or}
 use Rattle.dwarf_line.specs.declared.row.Row.{Row}
 use Rattle.dwarf_line.specs.LineRow.{LineRow, row_at}
-use Rattle.dwarf_line.specs.LineTable.{LineTable, IsPlaced, IsRising, with_text, row_address, sequence_in, sequences_of}
+use Rattle.dwarf_line.specs.Rows.{Rows, IsPlaced, IsRising, with_text, row_address, sequence_in, sequences_of}
 use Rattle.dwarf_line.specs.Program.{SequenceOf}
-use Rattle.byte_text.specs.Names.{cleaned}
-use Rattle.sym_map.specs.declared.range.Seen.{Seen}
+use Rattle.byte_text.specs.Names.{clean_name}
+use Rattle.sym_map.specs.declared.range.Cover.{Cover}
 use Rattle.sym_map.specs.declared.range.Range.{Range}
 use Rattle.name_numbers.specs.Keys.{NumberEach}
 use Rattle.sym_map.specs.inner.Lines.{cleaned_file, ShowsLine, AreLinesOf}
 use Rattle.sym_map.specs.SymbolMap.{RiseByBytes}
 use Rattle.sym_map.specs.Places.{unknown_name}
-use Rattle.sym_map.specs.inner.Spans.{seen, IsCutOf}
-use Rattle.sym_map.specs.inner.Rows.{RowSpan, IsBounded, all_rows, lined, row_spans}
+use Rattle.sym_map.specs.inner.Spans.{cover, IsCutOf}
+use Rattle.sym_map.specs.inner.Rows.{RowSpan, IsBounded, all_rows, line_spans, row_spans}
 use Rattle.sym_map.proofs.LineSpans.{IsLined, shows_lines}
 use Rattle.sym_map.proofs.Members.{Alike, Alike-refl, Alike-trans, Alike-permutation, Alike-cons, Alike-map, All-alike}
 use Rattle.sym_map.proofs.Members.{Contains-map}
@@ -29,16 +29,16 @@ file_of row = row.file
 
 file_texts : (files : List (List ℕ)) (xs : List Row)
     → map (cleaned_file files) (map file_of xs)
-    ≡ map (λ (row : LineRow). cleaned row.file) (map (with_text files) xs)
+    ≡ map (λ (row : LineRow). clean_name row.file) (map (with_text files) xs)
 file_texts files [] = refl
 file_texts files (x ∷ xs) = ap (λ ys. cleaned_file files x.file ∷ ys) (file_texts files xs)
 
-module _ (table : LineTable) (numbers : List ℕ) (alike : Alike numbers (map file_of (all_rows table))) where
+module _ (table : Rows) (numbers : List ℕ) (alike : Alike numbers (map file_of (all_rows table))) where
   -- the cleaned texts of the numbers are those of the rows
   texts_alike : Alike (map (cleaned_file table.files) numbers)
-      (map (λ (row : LineRow). cleaned row.file) (flat_map (λ (s : SequenceOf LineRow). s.rows) (sequences_of table)))
+      (map (λ (row : LineRow). clean_name row.file) (flat_map (λ (s : SequenceOf LineRow). s.rows) (sequences_of table)))
   texts_alike =
-      let clean : LineRow → List ℕ = λ (row : LineRow). cleaned row.file in
+      let clean : LineRow → List ℕ = λ (row : LineRow). clean_name row.file in
       let rows : List LineRow = flat_map (λ (s : SequenceOf LineRow). s.rows) (sequences_of table) in
       Alike-trans (map (cleaned_file table.files) numbers)
       (map (cleaned_file table.files) (map file_of (all_rows table))) (map clean rows)
@@ -94,12 +94,12 @@ module _ (table : LineTable) (numbers : List ℕ) (alike : Alike numbers (map fi
     pub are_lines : (ranges : List Range) (unknown : ℕ) → All (IsPlaced (length table.rows)) table.sequences
         → All (λ sequence. IsRising row_address (sequence_in table.rows sequence)) table.sequences
         → RiseByBytes names → Alike names (unknown_name ∷ map (cleaned_file table.files) numbers)
-        → length names < 2 ^ 32 → IsCutOf (lined by_file (row_spans table)) ranges
+        → length names < 2 ^ 32 → IsCutOf (line_spans by_file (row_spans table)) ranges
         → slice_get names unknown ≡ Some unknown_name
         → AreLinesOf (sequences_of table) names (record { 0 = unknown }) ranges
     are_lines ranges unknown whole rising rise same few cut at =
         let texts : List (List ℕ) = map (cleaned_file table.files) numbers in
-        let rows : List (List ℕ) = map (λ (row : LineRow). cleaned row.file)
+        let rows : List (List ℕ) = map (λ (row : LineRow). clean_name row.file)
         (flat_map (λ (s : SequenceOf LineRow). s.rows) (sequences_of table)) in
         record {
           names_rise = rise;
@@ -109,9 +109,9 @@ module _ (table : LineTable) (numbers : List ℕ) (alike : Alike numbers (map fi
           unknown_is = at;
           rise = cut.rise;
           within = cut.within;
-          shown = λ a small.
-              subst (λ (h : Seen). ShowsLine names h (row_at (sequences_of table) a)) (sym (cut.same a small))
-              (subst (λ (o : Option LineRow). ShowsLine names (seen (lined by_file (row_spans table)) a) o)
+          shows = λ a small.
+              subst (λ (h : Cover). ShowsLine names h (row_at (sequences_of table) a)) (sym (cut.same a small))
+              (subst (λ (o : Option LineRow). ShowsLine names (cover (line_spans by_file (row_spans table)) a) o)
               (row_seen_is table a (recursion_from_All (IsPlaced (length table.rows)) table.sequences whole)
               (recursion_from_All (λ sequence. IsRising row_address (sequence_in table.rows sequence)) table.sequences
               rising)) (shows_lines names table.files by_file (row_spans table) all_named a));

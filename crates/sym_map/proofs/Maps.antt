@@ -20,11 +20,11 @@ use Rattle.elf_read.specs.declared.symbol.Symbol.{Symbol}
 use Rattle.elf_read.specs.Image.{Image}
 use Rattle.dwarf_line.specs.Program.{SequenceOf}
 use Rattle.dwarf_line.specs.LineRow.{LineRow, row_at, line_of, line_at, last_at}
-use Rattle.byte_text.specs.Names.{cleaned}
+use Rattle.byte_text.specs.Names.{clean_name}
 use Rattle.event_costs.specs.declared.numbers.FileId.{FileId}
 use Rattle.event_costs.specs.declared.numbers.FuncId.{FuncId}
 use Rattle.sym_map.specs.declared.function.Function.{Function}
-use Rattle.sym_map.specs.declared.range.Seen.TheVariants as what
+use Rattle.sym_map.specs.declared.range.Cover.TheVariants as what
 use Rattle.sym_map.specs.declared.range.LineHere.{LineHere}
 use Rattle.sym_map.specs.declared.range.Range.{Range}
 use Rattle.sym_map.specs.declared.range.SymbolHere.{SymbolHere}
@@ -32,10 +32,10 @@ use Rattle.sym_map.specs.inner.Functions.{home_at}
 use Rattle.sym_map.specs.inner.Lines.{IsLineOf, AreLinesOf}
 use Rattle.sym_map.specs.Places.{Identity, Enters, IsEntryOf, unknown_name, unknown_function, function_of, function_at}
 use Rattle.sym_map.specs.Places.{location_at, is_entry, functions_of}
-use Rattle.sym_map.specs.Ranges.{AddressRanges, start_of, seen_at, symbol_of}
+use Rattle.sym_map.specs.Ranges.{AddressRanges, start_of, cover_at, symbol_of}
 use Rattle.sym_map.specs.Ranges.{here_at}
-use Rattle.sym_map.specs.inner.Entries.{entered, enters, start_of_first}
-use Rattle.sym_map.proofs.Ranges.{seen_at-start, far_starts, starts_below}
+use Rattle.sym_map.specs.inner.Entries.{entered_func, enters, start_of_first}
+use Rattle.sym_map.proofs.Ranges.{cover_at-start, far_starts, starts_below}
 use Rattle.sym_map.proofs.EntryTables.{entered_symbol}
 use Rattle.sym_map.specs.inner.Shows.{Shows}
 use Rattle.sym_map.specs.SymbolMap.{SymbolMap, by_identity, RiseByIdentity, place_of, is_entry_at, identity_in}
@@ -86,13 +86,13 @@ symbol_below image a s e =
 
 -- ---- the range of an address
 
-range_there : (xs : List Range) (a : ℕ) (s : SymbolHere) → symbol_of (seen_at xs a) ≡ Some s
-    → (r : Range) × Contains xs r × (r.start ≤ a) × (symbol_of r.seen ≡ Some s)
+range_there : (xs : List Range) (a : ℕ) (s : SymbolHere) → symbol_of (cover_at xs a) ≡ Some s
+    → (r : Range) × Contains xs r × (r.start ≤ a) × (symbol_of r.cover ≡ Some s)
 range_there xs a s e = go (last_at start_of a xs) refl e
   where
     go : (o : Option Range) → last_at start_of a xs ≡ o
-        → symbol_of (option_map_or (λ (r : Range). r.seen) o what.Nothing) ≡ Some s
-        → (r : Range) × Contains xs r × (r.start ≤ a) × (symbol_of r.seen ≡ Some s)
+        → symbol_of (option_map_or (λ (r : Range). r.cover) o what.Nothing) ≡ Some s
+        → (r : Range) × Contains xs r × (r.start ≤ a) × (symbol_of r.cover ≡ Some s)
     go None is f = absurd (cc)
     go (Some r) is f =
         let below : List Range = filter (λ (x : Range). leb x.start a) xs in
@@ -119,11 +119,11 @@ module _ (lines : List (SequenceOf LineRow)) (names : List (List ℕ)) (unknown 
   unknown_text = get_or_from_slice_get names unknown.0 unknown_name unknown_name L.unknown_is
 
   file_shown : (o : Option LineHere) (row : Option LineRow) → Shows (IsLineOf names) o row
-      → get_or names (option_map_or (λ (l : LineHere). l.file) o unknown).0 unknown_name ≡ cleaned (line_of row).file
+      → get_or names (option_map_or (λ (l : LineHere). l.file) o unknown).0 unknown_name ≡ clean_name (line_of row).file
   file_shown None None shows = unknown_text
   file_shown None (Some r) shows = absurd shows
   file_shown (Some l) None shows = absurd shows
-  file_shown (Some l) (Some r) shows = get_or_from_slice_get names l.file.0 (cleaned r.file) unknown_name shows.0
+  file_shown (Some l) (Some r) shows = get_or_from_slice_get names l.file.0 (clean_name r.file) unknown_name shows.0
 
   line_shown : (o : Option LineHere) (row : Option LineRow) → Shows (IsLineOf names) o row
       → option_map_or (λ (l : LineHere). l.line) o 0 ≡ (line_of row).line
@@ -137,17 +137,17 @@ module _ (lines : List (SequenceOf LineRow)) (names : List (List ℕ)) (unknown 
   file_within None None shows = slice_get_within names unknown.0 unknown_name L.unknown_is
   file_within None (Some r) shows = absurd shows
   file_within (Some l) None shows = absurd shows
-  file_within (Some l) (Some r) shows = slice_get_within names l.file.0 (cleaned r.file) shows.0
+  file_within (Some l) (Some r) shows = slice_get_within names l.file.0 (clean_name r.file) shows.0
 
   abbrev line_seen : ℕ → Option LineHere
-  line_seen a = Rattle.sym_map.specs.Ranges.line_of (seen_at line_ranges a)
+  line_seen a = Rattle.sym_map.specs.Ranges.line_of (cover_at line_ranges a)
 
   home_text : (a : ℕ) → a < 2 ^ 32
-      → get_or names (home_at line_ranges unknown a).0 unknown_name ≡ cleaned (line_at lines a).file
-  home_text a small = file_shown (line_seen a) (row_at lines a) (L.shown a small)
+      → get_or names (home_at line_ranges unknown a).0 unknown_name ≡ clean_name (line_at lines a).file
+  home_text a small = file_shown (line_seen a) (row_at lines a) (L.shows a small)
 
   home_within : (a : ℕ) → a < 2 ^ 32 → (home_at line_ranges unknown a).0 < length names
-  home_within a small = file_within (line_seen a) (row_at lines a) (L.shown a small)
+  home_within a small = file_within (line_seen a) (row_at lines a) (L.shows a small)
 
   module _ (image : Image) (functions : List Function) (unknown_func : FuncId) (symbol_ranges : List Range)
       (S : AreSymbolsOf image line_ranges unknown functions unknown_func symbol_ranges) where
@@ -155,14 +155,14 @@ module _ (lines : List (SequenceOf LineRow)) (names : List (List ℕ)) (unknown 
     ranges = record { symbols = symbol_ranges; lines = line_ranges; by_address = false }
 
     abbrev symbol_seen : ℕ → Option SymbolHere
-    symbol_seen a = symbol_of (seen_at symbol_ranges a)
+    symbol_seen a = symbol_of (cover_at symbol_ranges a)
 
     abbrev key : Symbol → Function
     key = symbol_key image line_ranges unknown
 
     key_identity : (s : Symbol) → s.value < 2 ^ 32 → identity_in names (key s) ≡ function_of image lines s
     key_identity s small = λ i. record
-        { file = home_text s.value small i; name = cleaned (Rattle.sym_map.specs.Symbols.symbol_name image s) }
+        { file = home_text s.value small i; name = clean_name (Rattle.sym_map.specs.Symbols.symbol_name image s) }
 
     unknown_identity : identity_in names (unknown_key unknown) ≡ unknown_function
     unknown_identity = λ i. record { file = unknown_text i; name = unknown_name }
@@ -197,7 +197,7 @@ module _ (lines : List (SequenceOf LineRow)) (names : List (List ℕ)) (unknown 
         → IfSome o (λ (l : LineHere). l.file.0 < length names)
     line_within None row shows = tt
     line_within (Some l) None shows = absurd shows
-    line_within (Some l) (Some r) shows = slice_get_within names l.file.0 (cleaned r.file) shows.0
+    line_within (Some l) (Some r) shows = slice_get_within names l.file.0 (clean_name r.file) shows.0
 
     line_limit : (o : Option LineHere) (row : Option LineRow) → Shows (IsLineOf names) o row
         → IfSome o (λ (l : LineHere). l.line < 2 ^ 32)
@@ -224,19 +224,19 @@ module _ (lines : List (SequenceOf LineRow)) (names : List (List ℕ)) (unknown 
         let rows : List LineRow = flat_map (λ (s : SequenceOf LineRow). s.rows) lines in
         ⊎_elim
         (λ (e : unknown_name ≡ text). ([], sym e))
-        (λ (r : Contains (map (λ (row : LineRow). cleaned row.file) rows) text).
-        let from = Contains-from_map (λ (row : LineRow). cleaned row.file) rows text r in
+        (λ (r : Contains (map (λ (row : LineRow). clean_name row.file) rows) text).
+        let from = Contains-from_map (λ (row : LineRow). clean_name row.file) rows text r in
         (from.0.file, sym from.2))
-        (first_or_rest unknown_name (map (λ (row : LineRow). cleaned row.file) rows) text ((L.names_are text).0 there))
+        (first_or_rest unknown_name (map (λ (row : LineRow). clean_name row.file) rows) text ((L.names_are text).0 there))
 
     files_cleaned : All IsCleaned names
     files_cleaned k d lt = file_cleaned (get_or names k d) (Contains-get_or names k d lt)
 
     pub known : (a : ℕ) → a < 2 ^ 32 → IsKnown functions names (here_at ranges a)
     known a small = record {
-      symbol = symbol_within (symbol_seen a) (symbol_at image a) (S.shown a small);
-      line = line_within (line_seen a) (row_at lines a) (L.shown a small);
-      line_limit = line_limit (line_seen a) (row_at lines a) (L.shown a small);
+      symbol = symbol_within (symbol_seen a) (symbol_at image a) (S.shows a small);
+      line = line_within (line_seen a) (row_at lines a) (L.shows a small);
+      line_limit = line_limit (line_seen a) (row_at lines a) (L.shows a small);
     }
 
     home_of : (function : Function) → Contains functions function → function.home.0 < length names
@@ -322,10 +322,10 @@ module _ (lines : List (SequenceOf LineRow)) (names : List (List ℕ)) (unknown 
       pub places : (a : ℕ) → a < 2 ^ 32 → location_of built (place_of built a) ≡ location_at image lines a
       unfolding place_of
       places a small = λ i. record {
-        function = func_shown (symbol_seen a) (symbol_at image a) (S.shown a small)
+        function = func_shown (symbol_seen a) (symbol_at image a) (S.shows a small)
             (values_small a small) i;
-        file = file_shown (line_seen a) (row_at lines a) (L.shown a small) i;
-        line = line_shown (line_seen a) (row_at lines a) (L.shown a small) i;
+        file = file_shown (line_seen a) (row_at lines a) (L.shows a small) i;
+        line = line_shown (line_seen a) (row_at lines a) (L.shows a small) i;
       }
 
       begins : (a : ℕ) (o : Option SymbolHere) (symbol : Option Symbol) → Shows (IsSymbolOf key functions) o symbol
@@ -338,7 +338,7 @@ module _ (lines : List (SequenceOf LineRow)) (names : List (List ℕ)) (unknown 
 
       pub entry_addresses : (a : ℕ) → a < 2 ^ 32 → is_entry_at built a ≡ is_entry image a
       unfolding is_entry_at
-      entry_addresses a small = begins a (symbol_seen a) (symbol_at image a) (S.shown a small)
+      entry_addresses a small = begins a (symbol_seen a) (symbol_at image a) (S.shows a small)
 
       -- an entry is the start of a range
       entry_limit : All (λ (r : Range). r.start < 2 ^ 32) symbol_ranges
@@ -371,7 +371,7 @@ module _ (lines : List (SequenceOf LineRow)) (names : List (List ℕ)) (unknown 
         ranges_rise = record { symbols = S.rise; lines = L.rise };
         symbol_limit = starts;
         line_limit = starts_below line_ranges (2 ^ 32) L.rise L.within;
-        known = known;
+        here_known = known;
         unknown_func = slice_get_within functions unknown_func.0 (unknown_key unknown) S.unknown_is;
         unknown_file = slice_get_within names unknown.0 unknown_name L.unknown_is;
       }
@@ -384,29 +384,29 @@ module _ (lines : List (SequenceOf LineRow)) (names : List (List ℕ)) (unknown 
       func_is a s small at =
           func_shown (Some s) (symbol_at image a)
           (subst (λ (o : Option SymbolHere). Shows (IsSymbolOf key functions) o (symbol_at image a)) at
-          (S.shown a small)) (values_small a small)
+          (S.shows a small)) (values_small a small)
 
       begins_there : (a : ℕ) (s : SymbolHere) → a < 2 ^ 32 → (symbol_seen a) ≡ Some s
           → eqb s.value a ≡ is_entry image a
       begins_there a s small at =
           begins a (Some s) (symbol_at image a)
           (subst (λ (o : Option SymbolHere). Shows (IsSymbolOf key functions) o (symbol_at image a)) at
-          (S.shown a small))
+          (S.shows a small))
 
       value_below : (a : ℕ) (s : SymbolHere) → a < 2 ^ 32 → (symbol_seen a) ≡ Some s → s.value ≤ a
       value_below a s small at = go (symbol_at image a) refl
           (subst (λ (o : Option SymbolHere). Shows (IsSymbolOf key functions) o (symbol_at image a)) at
-          (S.shown a small))
+          (S.shows a small))
         where
           go : (o : Option Symbol) → symbol_at image a ≡ o → Shows (IsSymbolOf key functions) (Some s) o → s.value ≤ a
           go None is shows = absurd shows
           go (Some x) is shows = let le = symbol_below image a x is in let e = shows.1 in omega arith
 
-      enters_func : (func : ℕ) (r : Range) → enters func r ≡ true → (g : FuncId) × (entered r ≡ Some g) × (g.0 ≡ func)
-      enters_func func r e = go (entered r) refl e
+      enters_func : (func : ℕ) (r : Range) → enters func r ≡ true → (g : FuncId) × (entered_func r ≡ Some g) × (g.0 ≡ func)
+      enters_func func r e = go (entered_func r) refl e
         where
-          go : (o : Option FuncId) → entered r ≡ o → option_map_or (λ (f : FuncId). eqb f.0 func) o false ≡ true
-              → (g : FuncId) × (entered r ≡ Some g) × (g.0 ≡ func)
+          go : (o : Option FuncId) → entered_func r ≡ o → option_map_or (λ (f : FuncId). eqb f.0 func) o false ≡ true
+              → (g : FuncId) × (entered_func r ≡ Some g) × (g.0 ≡ func)
           go None is f = absurd (cc)
           go (Some g) is f = (g, is, same_from_eqb g.0 func f)
 
@@ -420,7 +420,7 @@ module _ (lines : List (SequenceOf LineRow)) (names : List (List ℕ)) (unknown 
           let g = enters_func func r e in
           let s = entered_symbol r g.0 g.1 in
           let at : symbol_seen r.start ≡ Some s.0 =
-          ap symbol_of (seen_at-start symbol_ranges k d S.rise lt) ∙ s.1 in
+          ap symbol_of (cover_at-start symbol_ranges k d S.rise lt) ∙ s.1 in
           record {
             in_range = small;
             is_entry = sym (begins_there r.start s.0 small at) ∙ ap (λ n. eqb n r.start) s.3 ∙ eqb-same r.start;
@@ -467,7 +467,7 @@ module _ (lines : List (SequenceOf LineRow)) (names : List (List ℕ)) (unknown 
               let no : option_map_or (λ (h : SymbolHere). eqb h.value a) None false ≡ is_entry image a =
               begins a None (symbol_at image a)
               (subst (λ (o : Option SymbolHere). Shows (IsSymbolOf key functions) o (symbol_at image a)) at
-              (S.shown a enter.in_range)) in
+              (S.shows a enter.in_range)) in
               let yes = enter.is_entry in absurd (cc)
           go (Some s) at =
               let value : s.value ≡ a = same_from_eqb s.value a (begins_there a s enter.in_range at ∙ enter.is_entry) in
@@ -478,8 +478,8 @@ module _ (lines : List (SequenceOf LineRow)) (names : List (List ℕ)) (unknown 
               let small : r.start < 2 ^ 32 = subst (λ (x : Range). x.start < 2 ^ 32) is (starts k r there.1.1) in
               let own : symbol_seen r.start ≡ Some s =
               ap (λ (x : Range). symbol_seen x.start) (sym is)
-              ∙ ap symbol_of (seen_at-start symbol_ranges k r S.rise there.1.1)
-              ∙ ap (λ (x : Range). symbol_of x.seen) is ∙ there.3 in
+              ∙ ap symbol_of (cover_at-start symbol_ranges k r S.rise there.1.1)
+              ∙ ap (λ (x : Range). symbol_of x.cover) is ∙ there.3 in
               let below = value_below r.start s small own in
               let start : r.start ≡ a = let le = there.2 in omega arith in
               let number : s.func.0 ≡ func =
@@ -488,7 +488,7 @@ module _ (lines : List (SequenceOf LineRow)) (names : List (List ℕ)) (unknown 
               (λ (o : Option SymbolHere). IfSome o (λ (h : SymbolHere). h.func.0 < length functions)) at w.symbol)
               within (func_is a s enter.in_range at ∙ enter.of_function) in
               let test : eqb s.value r.start ≡ true = ap (λ n. eqb n r.start) (value ∙ sym start) ∙ eqb-same r.start in
-              let is_entered : entered r ≡ Some s.func =
+              let is_entered : entered_func r ≡ Some s.func =
               ap (λ (o : Option SymbolHere). option_and_then
               (λ (x : SymbolHere). cond (eqb x.value r.start) (Some x.func) None) o) there.3
               ∙ ap (λ b. cond b (Some s.func) None) test in (

@@ -8,10 +8,10 @@ use Rattle.std.proofs.lemmas.List.{get_or_default}
 use Rattle.std.proofs.lemmas.Option.{slice_get-get_or, slice_get_past}
 use Rattle.std.proofs.lemmas.Bool.{and_parts, eqb-true, le-leb, leb-true, lt-leb, ltb-true}
 use Rattle.sym_map.specs.declared.range.Range.{Range}
-use Rattle.sym_map.specs.declared.range.Seen.TheVariants as what
-use Rattle.sym_map.specs.Ranges.{seen_at}
+use Rattle.sym_map.specs.declared.range.Cover.TheVariants as what
+use Rattle.sym_map.specs.Ranges.{cover_at}
 use Rattle.sym_map.specs.inner.Rising.{Rise}
-use Rattle.sym_map.specs.inner.Nearby.{is_held, no_range, said_by}
+use Rattle.sym_map.specs.inner.Nearby.{is_held, no_range, cover_by_number}
 use Rattle.sym_map.proofs.Ranges.{far_starts, found, last_of-take}
 
 either : (x y : Bool) → (x || y) ≡ true → (x ≡ true) ⊎ (y ≡ true)
@@ -36,12 +36,12 @@ between xs k a rise lt from ends =
           ends),
     )
 
-pub said_is : (xs : List Range) (k : ℕ) (d : Range) → k < length xs → said_by xs k ≡ (get_or xs k d).seen
-said_is xs k d lt = ap (λ (o : Option Range). option_map_or (λ (r : Range). r.seen) o what.Nothing)
+pub said_is : (xs : List Range) (k : ℕ) (d : Range) → k < length xs → cover_by_number xs k ≡ (get_or xs k d).cover
+said_is xs k d lt = ap (λ (o : Option Range). option_map_or (λ (r : Range). r.cover) o what.Nothing)
     (slice_get-get_or xs k d lt)
 
 -- the range that an address lies in says what is known of it
-pub held : (xs : List Range) (k a : ℕ) → Rise xs → is_held xs k a ≡ true → said_by xs k ≡ seen_at xs a
+pub held : (xs : List Range) (k a : ℕ) → Rise xs → is_held xs k a ≡ true → cover_by_number xs k ≡ cover_at xs a
 held xs k a rise is =
     let start : ℕ = (get_or xs k no_range).start in
     let next : ℕ = (get_or xs (k + 1) no_range).start in
@@ -57,6 +57,6 @@ held xs k a rise is =
     ∙ sym (found xs a (k + 1) (omega arith) (between xs k a rise lt from ends)
     ∙ last_of-take xs (k + 1) k no_range (omega arith) refl)
 
-pub said_is_nothing : (xs : List Range) → said_by xs (length xs) ≡ what.Nothing
-said_is_nothing xs = ap (λ (o : Option Range). option_map_or (λ (r : Range). r.seen) o what.Nothing)
+pub said_is_nothing : (xs : List Range) → cover_by_number xs (length xs) ≡ what.Nothing
+said_is_nothing xs = ap (λ (o : Option Range). option_map_or (λ (r : Range). r.cover) o what.Nothing)
     (slice_get_past xs (length xs) (omega arith))

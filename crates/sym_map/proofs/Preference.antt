@@ -13,7 +13,7 @@ use Rattle.std.proofs.lemmas.List.Sorted.{ranks_by, sorted_far, Contains-permuta
 use Rattle.std.proofs.lemmas.Option.{get_or_from_slice_get, slice_get_within}
 use Rattle.elf_read.specs.declared.symbol.Symbol.{Symbol}
 use Rattle.elf_read.specs.Image.{Image}
-use Rattle.sym_map.specs.inner.Naming.{Named, by_preference, is_preferred}
+use Rattle.sym_map.specs.inner.Naming.{NamedSymbol, by_preference, is_preferred}
 use Rattle.sym_map.specs.Symbols.{binding_rank, is_candidate}
 use Rattle.sym_map.proofs.Members.{Contains-cons, Contains-first, first_or_rest}
 
@@ -21,12 +21,12 @@ use Rattle.sym_map.proofs.Members.{Contains-cons, Contains-first, first_or_rest}
 
 pub preference_total : IsTotalOrder by_preference
 preference_total =
-    then_total (on_total (λ (x : Named). x.symbol.value) (back_total nat_cmp_total))
-    (then_total (on_total (λ (x : Named). binding_rank x.symbol.binding) nat_cmp_total)
-    (on_total (λ (x : Named). x.name) nat_list_cmp_total))
+    then_total (on_total (λ (x : NamedSymbol). x.symbol.value) (back_total nat_cmp_total))
+    (then_total (on_total (λ (x : NamedSymbol). binding_rank x.symbol.binding) nat_cmp_total)
+    (on_total (λ (x : NamedSymbol). x.name) nat_list_cmp_total))
 
 pub preferred_weak : IsStrictWeakOrder is_preferred
-preferred_weak = ranks_by preference_total (λ (x : Named). x)
+preferred_weak = ranks_by preference_total (λ (x : NamedSymbol). x)
 
 -- ---- one symbol more
 

@@ -11,42 +11,42 @@ use Rattle.std.proofs.lemmas.Option.{slice_get-get_or}
 use Rattle.std.proofs.lemmas.Bool.{le-leb, lt-leb}
 use Rattle.dwarf_line.proofs.LookUp.{last_at-push}
 use Rattle.dwarf_line.specs.LineRow.{last_at}
-use Rattle.sym_map.specs.declared.range.Seen.{Seen}
+use Rattle.sym_map.specs.declared.range.Cover.{Cover}
 use Rattle.sym_map.specs.declared.range.Range.{Range}
-use Rattle.sym_map.specs.declared.range.Seen.TheVariants as what
-use Rattle.sym_map.specs.Ranges.{start_of, seen_at}
+use Rattle.sym_map.specs.declared.range.Cover.TheVariants as what
+use Rattle.sym_map.specs.Ranges.{start_of, cover_at}
 use Rattle.sym_map.specs.inner.Rising.{Rise}
-use Rattle.sym_map.specs.inner.Spans.{over, reach, IsPassed}
+use Rattle.sym_map.specs.inner.Spans.{or_below, reach, IsPassed}
 
 -- ---- one range more
 
-abbrev last_says : Option Range → Seen
-last_says last = option_map_or (λ (range : Range). range.seen) last what.Nothing
+abbrev last_says : Option Range → Cover
+last_says last = option_map_or (λ (range : Range). range.cover) last what.Nothing
 
 chosen : (b : Bool) (r : Range) (last : Option Range)
-    → last_says (cond b (Some r) last) ≡ cond b r.seen (last_says last)
+    → last_says (cond b (Some r) last) ≡ cond b r.cover (last_says last)
 chosen true r last = refl
 chosen false r last = refl
 
-pub seen_at-push : (xs : List Range) (r : Range) (a : ℕ)
-    → seen_at (xs ++ r ∷ []) a ≡ cond (leb r.start a) r.seen (seen_at xs a)
-seen_at-push xs r a = ap last_says (last_at-push start_of a xs r) ∙ chosen (leb r.start a) r (last_at start_of a xs)
+pub cover_at-push : (xs : List Range) (r : Range) (a : ℕ)
+    → cover_at (xs ++ r ∷ []) a ≡ cond (leb r.start a) r.cover (cover_at xs a)
+cover_at-push xs r a = ap last_says (last_at-push start_of a xs r) ∙ chosen (leb r.start a) r (last_at start_of a xs)
 
-pub from_push : (xs : List Range) (r : Range) (a : ℕ) → r.start ≤ a → seen_at (xs ++ r ∷ []) a ≡ r.seen
-from_push xs r a le = seen_at-push xs r a ∙ rw (le-leb r.start a le) refl
+pub from_push : (xs : List Range) (r : Range) (a : ℕ) → r.start ≤ a → cover_at (xs ++ r ∷ []) a ≡ r.cover
+from_push xs r a le = cover_at-push xs r a ∙ rw (le-leb r.start a le) refl
 
-pub below_push : (xs : List Range) (r : Range) (a : ℕ) → a < r.start → seen_at (xs ++ r ∷ []) a ≡ seen_at xs a
-below_push xs r a lt = seen_at-push xs r a ∙ rw (lt-leb r.start a lt) refl
+pub below_push : (xs : List Range) (r : Range) (a : ℕ) → a < r.start → cover_at (xs ++ r ∷ []) a ≡ cover_at xs a
+below_push xs r a lt = cover_at-push xs r a ∙ rw (lt-leb r.start a lt) refl
 
 -- ---- the next range is passed
 
 pub at_passed : (xs : List Range) (i : ℕ) (r : Range) (a : ℕ) → i < length xs → r ≡ get_or xs i r → r.start ≤ a
-    → seen_at (take (i + 1) xs) a ≡ r.seen
-at_passed xs i r a lt is le = ap (λ ys. seen_at ys a) (take_more xs i r lt ∙ ap (λ x. take i xs ++ x ∷ []) (sym is))
+    → cover_at (take (i + 1) xs) a ≡ r.cover
+at_passed xs i r a lt is le = ap (λ ys. cover_at ys a) (take_more xs i r lt ∙ ap (λ x. take i xs ++ x ∷ []) (sym is))
     ∙ from_push (take i xs) r a le
 
-pub passed : (xs : List Range) (i : ℕ) (here : Seen) (r : Range) (start : ℕ) → Rise xs → IsPassed xs i here start
-    → i < length xs → r ≡ get_or xs i r → r.start ≡ start → IsPassed xs (i + 1) r.seen (start + 1)
+pub passed : (xs : List Range) (i : ℕ) (here : Cover) (r : Range) (start : ℕ) → Rise xs → IsPassed xs i here start
+    → i < length xs → r ≡ get_or xs i r → r.start ≡ start → IsPassed xs (i + 1) r.cover (start + 1)
 passed xs i here r start rise so lt is begins = record {
   within = omega arith;
   taken = λ a le. at_passed xs i r a lt is (omega arith);
@@ -61,7 +61,7 @@ passed xs i here r start rise so lt is begins = record {
     other_default (x ∷ xs) (suc k) d e lt = other_default xs k d e (omega arith)
 
 -- from a later address on, which isn't above the next start
-pub later : (xs : List Range) (i : ℕ) (here : Seen) (low start : ℕ) → IsPassed xs i here low → low ≤ start
+pub later : (xs : List Range) (i : ℕ) (here : Cover) (low start : ℕ) → IsPassed xs i here low → low ≤ start
     → ((d : Range) → i < length xs → start ≤ (get_or xs i d).start) → IsPassed xs i here start
 later xs i here low start so le ahead = record {
   within = so.within;
@@ -102,13 +102,13 @@ Rise-push xs r rise above k d lt =
     last_or_before k n lt = grind arith
 
 -- all that is merged so far at an address, and one range more
-pub merged_more : (merged : List Range) (above below new_above new_below : List Range) (r : Range) (x y : Seen)
-    → r.seen ≡ over x y
-    → ((a : ℕ) → seen_at merged a ≡ over (seen_at above a) (seen_at below a))
-    → ((a : ℕ) → r.start ≤ a → seen_at new_above a ≡ x) → ((a : ℕ) → r.start ≤ a → seen_at new_below a ≡ y)
-    → ((a : ℕ) → a < r.start → seen_at new_above a ≡ seen_at above a)
-    → ((a : ℕ) → a < r.start → seen_at new_below a ≡ seen_at below a)
-    → (a : ℕ) → seen_at (merged ++ r ∷ []) a ≡ over (seen_at new_above a) (seen_at new_below a)
+pub merged_more : (merged : List Range) (above below new_above new_below : List Range) (r : Range) (x y : Cover)
+    → r.cover ≡ or_below x y
+    → ((a : ℕ) → cover_at merged a ≡ or_below (cover_at above a) (cover_at below a))
+    → ((a : ℕ) → r.start ≤ a → cover_at new_above a ≡ x) → ((a : ℕ) → r.start ≤ a → cover_at new_below a ≡ y)
+    → ((a : ℕ) → a < r.start → cover_at new_above a ≡ cover_at above a)
+    → ((a : ℕ) → a < r.start → cover_at new_below a ≡ cover_at below a)
+    → (a : ℕ) → cover_at (merged ++ r ∷ []) a ≡ or_below (cover_at new_above a) (cover_at new_below a)
 merged_more merged above below new_above new_below r x y is so xs ys xs_before ys_before a =
     ⊎_elim
     (λ (le : r.start ≤ a). from_push merged r a le ∙ is ∙ rw (xs a le, ys a le) refl)
@@ -136,18 +136,18 @@ rises_by_start xs a rise =
     (IsNonDecreasingBy-from_all_adjacent (λ (r : Range). r.start) xs
     (λ k d lt. let up = rise k d lt in omega arith))
 
-abbrev pub last_of : List Range → Seen
+abbrev pub last_of : List Range → Cover
 last_of below = last_says (slice_get below (length below - 1))
 
 pub found : (xs : List Range) (a n : ℕ) → n ≤ length xs
     → IsPartitionPoint (λ (r : Range). leb r.start a ≡ true) (λ (r : Range). leb r.start a ≡ false) xs n
-    → seen_at xs a ≡ last_of (take n xs)
+    → cover_at xs a ≡ last_of (take n xs)
 found xs a n le point =
     ap last_of (partitioned (λ (r : Range). leb r.start a) xs n le (λ k d lt. point.0 k d (omega arith) lt)
     (λ k d from lt. point.1 k d from lt))
 
 pub last_of-take : (xs : List Range) (n last : ℕ) (d : Range) → n ≤ length xs → n ≡ last + 1
-    → last_of (take n xs) ≡ (get_or xs last d).seen
+    → last_of (take n xs) ≡ (get_or xs last d).cover
 last_of-take xs n last d le is =
     let long : length (take n xs) ≡ n = length-take-le n xs le in
     let place : length (take n xs) - 1 ≡ last = omega arith in
@@ -177,9 +177,9 @@ starts_below xs n rise within k d lt =
     let le = far_starts xs rise k (length xs - 1) d (omega arith) (omega arith) in
     omega arith
 
-pub seen_at-start : (xs : List Range) (k : ℕ) (d : Range) → Rise xs → k < length xs
-    → seen_at xs (get_or xs k d).start ≡ (get_or xs k d).seen
-seen_at-start xs k d rise lt =
+pub cover_at-start : (xs : List Range) (k : ℕ) (d : Range) → Rise xs → k < length xs
+    → cover_at xs (get_or xs k d).start ≡ (get_or xs k d).cover
+cover_at-start xs k d rise lt =
     let a : ℕ = (get_or xs k d).start in
     let at : (j : ℕ) (e : Range) → j < length xs
     → (get_or xs j e).start ≡ (get_or xs j d).start =

@@ -18,7 +18,7 @@ use Rattle.elf_read.specs.declared.symbol.Symbol.{Symbol}
 use Rattle.sym_map.specs.Symbols.{binding_rank, symbol_name}
 use Rattle.name_numbers.specs.Keys.{NumberEach}
 use Rattle.sym_map.specs.inner.Limits.{Fall}
-use Rattle.sym_map.specs.inner.Naming.{Named, NumberedSymbol, is_preferred, nameless, parted}
+use Rattle.sym_map.specs.inner.Naming.{NamedSymbol, NumberedSymbol, is_preferred, nameless, name_beside}
 use Rattle.sym_map.specs.inner.Ranking.{by_rank, named_in}
 use Rattle.sym_map.proofs.Preference.{preference_total, preferred_weak}
 use Rattle.sym_map.proofs.Numbers.{number_order, rest_numbered}
@@ -76,7 +76,7 @@ ranks_agree names rise rs all x y here there =
 -- symbols whose numbers stand for their names are the candidates
 pub all_parted : (image : Image) (names : List (List ℕ)) (rs : List NumberedSymbol) (ss : List Symbol)
     → map symbol_of rs ≡ map nameless ss → NumberEach names (map number_of rs) (map (symbol_name image) ss)
-    → map (named_in names) rs ≡ map (parted image) ss
+    → map (named_in names) rs ≡ map (name_beside image) ss
 all_parted image names [] [] e each = refl
 all_parted image names [] (s ∷ ss) e each = absurd (cc)
 all_parted image names (r ∷ rs) [] e each = absurd (cc)
@@ -85,9 +85,9 @@ all_parted image names (r ∷ rs) (s ∷ ss) e each =
     let symbols : map symbol_of rs ≡ map nameless ss = cc in
     let name : get_or names r.number [] ≡ symbol_name image s =
     get_or_from_slice_get names r.number (symbol_name image s) [] (each.each 0 (omega arith)) in
-    let first : named_in names r ≡ parted image s = λ i. record { symbol = symbol i; name = name i } in
-    ap (λ (n : Named). n ∷ map (named_in names) rs) first
-    ∙ ap (λ (ns : List Named). parted image s ∷ ns) (all_parted image names rs ss symbols
+    let first : named_in names r ≡ name_beside image s = λ i. record { symbol = symbol i; name = name i } in
+    ap (λ (n : NamedSymbol). n ∷ map (named_in names) rs) first
+    ∙ ap (λ (ns : List NamedSymbol). name_beside image s ∷ ns) (all_parted image names rs ss symbols
     (rest_numbered names r.number (map number_of rs) (symbol_name image s) (map (symbol_name image) ss) each))
 
 pub all_within : (names : List (List ℕ)) (rs : List NumberedSymbol) (wanted : List (List ℕ))
@@ -100,13 +100,13 @@ all_within names rs wanted so k d lt =
     (so.each k inside ∙ slice_get-get_or wanted k [] inside))
 
 -- what is sorted by preference has no greater value behind a lesser one
-pub values_fall : (ns : List Named) → IsSortedBy is_preferred ns → Fall (map (λ (n : Named). n.symbol) ns)
+pub values_fall : (ns : List NamedSymbol) → IsSortedBy is_preferred ns → Fall (map (λ (n : NamedSymbol). n.symbol) ns)
 values_fall ns sorted i j d le lt =
-    let symbol : Named → Symbol = λ (n : Named). n.symbol in
+    let symbol : NamedSymbol → Symbol = λ (n : NamedSymbol). n.symbol in
     let long : length (map symbol ns) ≡ length ns = length-map ns symbol in
-    let unnamed : Named = record { symbol = d; name = [] } in
-    let x : Named = get_or ns i unnamed in
-    let y : Named = get_or ns j unnamed in
+    let unnamed : NamedSymbol = record { symbol = d; name = [] } in
+    let x : NamedSymbol = get_or ns i unnamed in
+    let y : NamedSymbol = get_or ns j unnamed in
     let first : get_or (map symbol ns) i d ≡ x.symbol = get_or-map symbol ns i unnamed d (omega (arith, long)) in
     let second : get_or (map symbol ns) j d ≡ y.symbol = get_or-map symbol ns j unnamed d (omega (arith, long)) in
     let behind : is_preferred y x ≡ false =
@@ -116,7 +116,7 @@ values_fall ns sorted i j d le lt =
     either : (a b : ℕ) → (a < b) ⊎ (b ≤ a)
     either a b = grind arith
 
-    below : (x y : Named) → is_preferred y x ≡ false → y.symbol.value ≤ x.symbol.value
+    below : (x y : NamedSymbol) → is_preferred y x ≡ false → y.symbol.value ≤ x.symbol.value
     below x y behind =
         ⊎_elim
         (λ (gt : x.symbol.value < y.symbol.value).

@@ -20,8 +20,8 @@ use Rattle.dwarf_line.specs.declared.row.Row.{Row}
 use Rattle.dwarf_line.specs.declared.row.Sequence.{Sequence}
 use Rattle.dwarf_line.specs.Program.{SequenceOf}
 use Rattle.dwarf_line.specs.LineRow.{LineRow, line_address, covers, last_at, row_at}
-use Rattle.dwarf_line.specs.LineTable.{LineTable, IsPlaced, IsRising, with_text, row_address, sequence_in, sequences_of}
-use Rattle.sym_map.specs.inner.Rows.{RowSpan, all_rows, line_span, lined, span_of, rows_in, pile, piles, row_spans, covers_row, row_seen}
+use Rattle.dwarf_line.specs.Rows.{Rows, IsPlaced, IsRising, with_text, row_address, sequence_in, sequences_of}
+use Rattle.sym_map.specs.inner.Rows.{RowSpan, all_rows, line_span, line_spans, span_of, rows_in, pile, piles, row_spans, covers_row, row_seen}
 use Rattle.sym_map.proofs.Spans.{or-none}
 
 -- ---- one row, or one sequence, more
@@ -74,11 +74,11 @@ pub rows_rise : (rows : List Row) (sequence : Sequence) (i j : ℕ) (d : Row) �
     → (get_or rows i d).addr ≤ (get_or rows j d).addr
 rows_rise rows sequence i j d placed rise from le lt =
     let first : ℕ = sequence.first in
-    let own : List Row = rows_in rows sequence in
+    let sequence_rows : List Row = rows_in rows sequence in
     let long : length (drop first rows) ≡ length rows - first = length-drop first rows in
-    let whole : length own ≡ sequence.last - first =
+    let whole : length sequence_rows ≡ sequence.last - first =
     length-take-le (sequence.last - first) (drop first rows) (omega (arith, placed.1)) in
-    let at : (k : ℕ) → first ≤ k → k < sequence.last → get_or own (k - first) d ≡ get_or rows k d =
+    let at : (k : ℕ) → first ≤ k → k < sequence.last → get_or sequence_rows (k - first) d ≡ get_or rows k d =
     λ k up below. get_or-take (sequence.last - first) (drop first rows) (k - first) d (omega arith)
     ∙ get_or-drop first rows (k - first) d ∙ ap (λ n. get_or rows n d) (let e : first + (k - first) ≡ k = omega arith in e) in
     rw (← at i from (omega arith), ← at j (omega arith) lt)
@@ -108,33 +108,33 @@ range_parts {X} xs i j k first second =
 -- spans of the lines of sequences: of one, of one more, and of two parts
 pub lined_one : (ids : List ℕ) (rows : List Row) (sequences : List Sequence) (i : ℕ) (sequence : Sequence)
     → slice_get sequences i ≡ Some sequence
-    → lined ids (piles rows (slice_range sequences i (i + 1))) ≡ lined ids (pile rows sequence) ++ []
+    → line_spans ids (piles rows (slice_range sequences i (i + 1))) ≡ line_spans ids (pile rows sequence) ++ []
 lined_one ids rows sequences i sequence at =
-    ap (λ (xs : List Sequence). lined ids (piles rows xs)) (range_up sequences i i sequence (omega arith) at
+    ap (λ (xs : List Sequence). line_spans ids (piles rows xs)) (range_up sequences i i sequence (omega arith) at
     ∙ ap (λ (xs : List Sequence). xs ++ sequence ∷ []) (range_none sequences i))
     ∙ map-append (line_span ids) (pile rows sequence) []
 
 pub lined_down : (ids : List ℕ) (rows : List Row) (sequences : List Sequence) (i last : ℕ) (sequence : Sequence)
     → 0 < i → i ≤ last → slice_get sequences (i - 1) ≡ Some sequence
-    → lined ids (piles rows (slice_range sequences (i - 1) last))
-    ≡ lined ids (pile rows sequence) ++ lined ids (piles rows (slice_range sequences i last))
+    → line_spans ids (piles rows (slice_range sequences (i - 1) last))
+    ≡ line_spans ids (pile rows sequence) ++ line_spans ids (piles rows (slice_range sequences i last))
 lined_down ids rows sequences i last sequence some le at =
     let lt : i - 1 < length sequences = slice_get_within sequences (i - 1) sequence at in
-    ap (λ (xs : List Sequence). lined ids (piles rows xs))
+    ap (λ (xs : List Sequence). line_spans ids (piles rows xs))
     (range_down sequences i last sequence some le (omega arith)
     ∙ ap (λ (s : Sequence). s ∷ slice_range sequences i last)
     (get_or_from_slice_get sequences (i - 1) sequence sequence at))
     ∙ map-append (line_span ids) (pile rows sequence) (piles rows (slice_range sequences i last))
 
 pub lined_parts : (ids : List ℕ) (rows : List Row) (sequences : List Sequence) (i j k : ℕ) → i ≤ j → j ≤ k
-    → lined ids (piles rows (slice_range sequences i j)) ++ lined ids (piles rows (slice_range sequences j k))
-    ≡ lined ids (piles rows (slice_range sequences i k))
+    → line_spans ids (piles rows (slice_range sequences i j)) ++ line_spans ids (piles rows (slice_range sequences j k))
+    ≡ line_spans ids (piles rows (slice_range sequences i k))
 lined_parts ids rows sequences i j k first second =
     let front : List Sequence = slice_range sequences i j in
     let back : List Sequence = slice_range sequences j k in
     sym (map-append (line_span ids) (piles rows front) (piles rows back))
-    ∙ ap (lined ids) (sym (flat_map-append (pile rows) front back))
-    ∙ ap (λ (xs : List Sequence). lined ids (piles rows xs)) (range_parts sequences i j k first second)
+    ∙ ap (line_spans ids) (sym (flat_map-append (pile rows) front back))
+    ∙ ap (λ (xs : List Sequence). line_spans ids (piles rows xs)) (range_parts sequences i j k first second)
 
 -- ---- the row on top
 
@@ -224,14 +224,14 @@ and_left : (b c : Bool) → (b && c) ≡ true → b ≡ true
 and_left true c e = refl
 and_left false c e = e
 
-abbrev own : List Row → Sequence → SequenceOf Row
-own rows sequence = record { rows = rows_in rows sequence; end = sequence.end }
+abbrev sequence_rows : List Row → Sequence → SequenceOf Row
+sequence_rows rows sequence = record { rows = rows_in rows sequence; end = sequence.end }
 
 -- what one sequence gives, over the rest
 pile_of_rows : (rows : List Row) (sequence : Sequence) (a : ℕ) (x : Row) (xs : List Row)
     → rows_in rows sequence ≡ x ∷ xs → IsNonDecreasingBy row_address (rows_in rows sequence)
     → row_seen (pile rows sequence) a
-    ≡ cond (covers row_address a (own rows sequence)) (last_at row_address a (rows_in rows sequence)) None
+    ≡ cond (covers row_address a (sequence_rows rows sequence)) (last_at row_address a (rows_in rows sequence)) None
 unfolding pile
 pile_of_rows rows sequence a x xs is rise =
     let rise' : IsNonDecreasingBy row_address (x ∷ xs) =
@@ -287,41 +287,41 @@ abbrev pub AllRise : List Row → List Sequence → Type 0
 AllRise rows sequences = AllByRecursion (λ sequence. IsRising row_address (sequence_in rows sequence)) sequences
 
 one_covers : (files : List (List ℕ)) (rows : List Row) (sequence : Sequence) (sequences : List Sequence) (a : ℕ)
-    (rest : Option LineRow) → Head rows sequence → covers row_address a (own rows sequence) ≡ true
+    (rest : Option LineRow) → Head rows sequence → covers row_address a (sequence_rows rows sequence) ≡ true
     → row_seen (pile rows sequence) a ≡ last_at row_address a (rows_in rows sequence)
     → option_or (texts files (row_seen (pile rows sequence) a)) rest
     ≡ row_after (found_from files rows (sequence ∷ sequences) a 0) a
-one_covers files rows sequence sequences a rest there is seen =
+one_covers files rows sequence sequences a rest there is cover =
     let begins : covers row_address a (record { rows = there.0 ∷ there.1; end = sequence.end }) ≡ true =
     subst (λ (xs : List Row). covers row_address a (record { rows = xs; end = sequence.end }) ≡ true) there.2 is in
     let last = first_is_there a there.0 there.1 (and_left (leb there.0.addr a) (ltb a sequence.end) begins) in
-    let at : row_seen (pile rows sequence) a ≡ Some last.0 = seen
+    let at : row_seen (pile rows sequence) a ≡ Some last.0 = cover
     ∙ ap (λ (xs : List Row). last_at row_address a xs) there.2 ∙ last.1 in
     let whole = found files rows (sequence ∷ sequences) a 0 sequence (found_from files rows (sequence ∷ sequences) a 0)
     (omega arith) is refl in
-    ap (λ o. option_or (texts files o) rest) at ∙ sym (ap (texts files) (sym seen ∙ at)) ∙ whole
+    ap (λ o. option_or (texts files o) rest) at ∙ sym (ap (texts files) (sym cover ∙ at)) ∙ whole
 
 one_passed : (files : List (List ℕ)) (rows : List Row) (sequence : Sequence) (sequences : List Sequence) (a : ℕ)
-    (rest : Option LineRow) → covers row_address a (own rows sequence) ≡ false
+    (rest : Option LineRow) → covers row_address a (sequence_rows rows sequence) ≡ false
     → row_seen (pile rows sequence) a ≡ None → row_after (found_from files rows sequences a 0) a ≡ rest
     → option_or (texts files (row_seen (pile rows sequence) a)) rest
     ≡ row_after (found_from files rows (sequence ∷ sequences) a 0) a
-one_passed files rows sequence sequences a rest is seen so =
-    ap (λ o. option_or (texts files o) rest) seen ∙ sym so
+one_passed files rows sequence sequences a rest is cover so =
+    ap (λ o. option_or (texts files o) rest) cover ∙ sym so
     ∙ sym (ap (λ (o : Option (SequenceOf LineRow)). row_after o a)
     (passed files rows (sequence ∷ sequences) a 0 sequence (omega arith) is))
 
 -- one sequence more in front
 one_more : (files : List (List ℕ)) (rows : List Row) (sequence : Sequence) (sequences : List Sequence) (a : ℕ)
-    (rest : Option LineRow) (b : Bool) → Head rows sequence → covers row_address a (own rows sequence) ≡ b
+    (rest : Option LineRow) (b : Bool) → Head rows sequence → covers row_address a (sequence_rows rows sequence) ≡ b
     → row_seen (pile rows sequence) a ≡ cond b (last_at row_address a (rows_in rows sequence)) None
     → row_after (found_from files rows sequences a 0) a ≡ rest
     → option_or (texts files (row_seen (pile rows sequence) a)) rest
     ≡ row_after (found_from files rows (sequence ∷ sequences) a 0) a
-one_more files rows sequence sequences a rest true there is seen so =
-    one_covers files rows sequence sequences a rest there is seen
-one_more files rows sequence sequences a rest false there is seen so =
-    one_passed files rows sequence sequences a rest is seen so
+one_more files rows sequence sequences a rest true there is cover so =
+    one_covers files rows sequence sequences a rest there is cover
+one_more files rows sequence sequences a rest false there is cover so =
+    one_passed files rows sequence sequences a rest is cover so
 
 all_sequences : (files : List (List ℕ)) (rows : List Row) (sequences : List Sequence) (a : ℕ)
     → AllByRecursion (IsPlaced (length rows)) sequences → AllRise rows sequences
@@ -332,12 +332,12 @@ all_sequences files rows (sequence ∷ sequences) a placed rise =
     ap (texts files) (row_seen-append (pile rows sequence) (piles rows sequences) a)
     ∙ texts-or files (row_seen (pile rows sequence) a) (row_seen (piles rows sequences) a)
     ∙ one_more files rows sequence sequences a (texts files (row_seen (piles rows sequences) a))
-    (covers row_address a (own rows sequence)) there refl
+    (covers row_address a (sequence_rows rows sequence)) there refl
     (pile_of_rows rows sequence a there.0 there.1 there.2 rise.0.rows_rise)
     (sym (all_sequences files rows sequences a placed.1 rise.1))
 
 -- the row on top has the text and line of the address's row
-pub row_seen_is : (table : LineTable) (a : ℕ) → AllByRecursion (IsPlaced (length table.rows)) table.sequences
+pub row_seen_is : (table : Rows) (a : ℕ) → AllByRecursion (IsPlaced (length table.rows)) table.sequences
     → AllRise table.rows table.sequences
     → option_map (with_text table.files) (row_seen (row_spans table) a) ≡ row_at (sequences_of table) a
 row_seen_is table a placed rise = all_sequences table.files table.rows table.sequences a placed rise
@@ -386,10 +386,10 @@ lines_of files rows (sequence ∷ sequences) =
         (drop-map (with_text files) first rows, take-map (with_text files) (last - first) (drop first rows)) refl
 
 -- the rows of all spans are those of all sequences, in another order
-pub spans_hold : (table : LineTable) → IsPermutation (map (λ (s : RowSpan). s.row) (row_spans table)) (all_rows table)
+pub spans_hold : (table : Rows) → IsPermutation (map (λ (s : RowSpan). s.row) (row_spans table)) (all_rows table)
 spans_hold table = piles_hold table.rows table.sequences
 
 -- which are those of the line table
-pub lines_are : (table : LineTable) → map (with_text table.files) (all_rows table)
+pub lines_are : (table : Rows) → map (with_text table.files) (all_rows table)
     ≡ flat_map (λ (s : SequenceOf LineRow). s.rows) (sequences_of table)
 lines_are table = lines_of table.files table.rows table.sequences

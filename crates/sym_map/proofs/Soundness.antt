@@ -22,8 +22,8 @@ use Rattle.sym_map.specs.declared.range.Range.{Range}
 use Rattle.sym_map.specs.declared.range.SymbolHere.{SymbolHere}
 use Rattle.sym_map.specs.FunctionOrder.{by_function}
 use Rattle.sym_map.specs.Places.{Identity, unknown_name, unknown_function}
-use Rattle.sym_map.specs.declared.range.Seen.TheVariants as what
-use Rattle.sym_map.specs.Ranges.{address_line, here_at, line_of, line_told, no_file, seen_at, symbol_of}
+use Rattle.sym_map.specs.declared.range.Cover.TheVariants as what
+use Rattle.sym_map.specs.Ranges.{address_line, here_at, line_of, line_or_address, no_file, cover_at, symbol_of}
 use Rattle.sym_map.specs.SymbolMap.{SymbolMap, IsSound, place_of, place_in, identity_in}
 use Rattle.sym_map.specs.inner.Maps.{IsKnown, IsMap}
 use Rattle.sym_map.proofs.Rising.{far}
@@ -102,14 +102,14 @@ module _ (m : SymbolMap) (is : IsMap m.functions m.files m.entries m.ranges m.un
       (filter (λ (r : Range). leb r.start (2 ^ 32 - 1)) xs)) other)
 
   far_seen : (a : ℕ) (xs : List Range) → 2 ^ 32 ≤ a → All (λ (r : Range). r.start < 2 ^ 32) xs
-      → seen_at xs a ≡ seen_at xs (2 ^ 32 - 1)
-  far_seen a xs up small = ap (λ (below : List Range). option_map_or (λ (r : Range). r.seen)
+      → cover_at xs a ≡ cover_at xs (2 ^ 32 - 1)
+  far_seen a xs up small = ap (λ (below : List Range). option_map_or (λ (r : Range). r.cover)
       (slice_get below (length below - 1)) what.Nothing)
       (far_alike a xs up (recursion_from_All (λ (r : Range). r.start < 2 ^ 32) xs small))
 
   far_told : (a : ℕ) (by_address : Bool) → 2 ^ 32 ≤ a
-      → line_told by_address a (seen_at m.ranges.lines a)
-      ≡ line_told by_address (2 ^ 32 - 1) (seen_at m.ranges.lines (2 ^ 32 - 1))
+      → line_or_address by_address a (cover_at m.ranges.lines a)
+      ≡ line_or_address by_address (2 ^ 32 - 1) (cover_at m.ranges.lines (2 ^ 32 - 1))
   far_told a true up =
       let last : address_line a ≡ 2 ^ 32 - 1 = grind (arith, nat_tests) in
       ap (λ (n : ℕ). Some (record { file = no_file; line = n })) last
@@ -123,9 +123,9 @@ module _ (m : SymbolMap) (is : IsMap m.functions m.files m.entries m.ranges m.un
 
   known : (a : ℕ) → IsKnown m.functions m.files (here_at m.ranges a)
   known a =
-      ⊎_elim (λ (small : a < 2 ^ 32). is.known a small)
+      ⊎_elim (λ (small : a < 2 ^ 32). is.here_known a small)
       (λ (up : 2 ^ 32 ≤ a).
-      subst (IsKnown m.functions m.files) (far_here a up) (is.known (2 ^ 32 - 1) (omega arith)))
+      subst (IsKnown m.functions m.files) (far_here a up) (is.here_known (2 ^ 32 - 1) (omega arith)))
       (let P : (a < 2 ^ 32) ⊎ (2 ^ 32 ≤ a) = grind arith in P)
 
   known_func : (here : Here) → IfSome here.symbol (λ (s : SymbolHere). s.func.0 < length m.functions)

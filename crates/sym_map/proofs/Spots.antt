@@ -10,9 +10,9 @@ use Rattle.std.proofs.lemmas.List.{take-append-le}
 use Rattle.std.proofs.Math.Seq.{take-length}
 use Rattle.event_costs.specs.Keys.{Place}
 use Rattle.sym_map.specs.declared.place_index.Spot.{Spot}
-use Rattle.sym_map.specs.AddressMap.{told_by_address}
+use Rattle.sym_map.specs.AddressMap.{lines_by_address}
 use Rattle.sym_map.specs.Ranges.{AddressRanges}
-use Rattle.sym_map.specs.inner.Indexed.{AreIndexed, AreTold, IsSpot, told_up_to}
+use Rattle.sym_map.specs.inner.Indexed.{AreIndexed, AreByAddress, IsSpot, lines_by_address_up_to}
 
 pub no_spots : (ranges : AddressRanges) (unknown : Place) (first : ℕ) → first < 2 ^ 32
     → AreIndexed ranges unknown first []
@@ -66,53 +66,53 @@ spots_set ranges unknown first spots i spot lt are is =
 
 -- ---- spots that are told by their addresses
 
-pub none_told : (ranges : AddressRanges) (unknown : Place) (first : ℕ) (spots : List Spot)
-    → AreIndexed ranges unknown first spots → AreTold ranges unknown first 0 spots
-none_told ranges unknown first spots are = record {
+pub none_by_address : (ranges : AddressRanges) (unknown : Place) (first : ℕ) (spots : List Spot)
+    → AreIndexed ranges unknown first spots → AreByAddress ranges unknown first 0 spots
+none_by_address ranges unknown first spots are = record {
   within = are.within;
   at = λ k d below.
       let later : nat_lt k 0 ≡ false = grind (arith, nat_tests) in
-      subst (λ (b : Bool). IsSpot (if b then told_by_address ranges else ranges) unknown (first + 4 * k)
+      subst (λ (b : Bool). IsSpot (if b then lines_by_address ranges else ranges) unknown (first + 4 * k)
       (get_or spots k d)) (sym later) (are.at k d below);
 }
 
-pub all_told : (ranges : AddressRanges) (unknown : Place) (first count : ℕ) (spots : List Spot)
-    → length spots ≤ count → AreTold ranges unknown first count spots
-    → AreIndexed (told_by_address ranges) unknown first spots
-all_told ranges unknown first count spots all are = record {
+pub all_by_address : (ranges : AddressRanges) (unknown : Place) (first count : ℕ) (spots : List Spot)
+    → length spots ≤ count → AreByAddress ranges unknown first count spots
+    → AreIndexed (lines_by_address ranges) unknown first spots
+all_by_address ranges unknown first count spots all are = record {
   within = are.within;
   at = λ k d below.
       let earlier : nat_lt k count ≡ true = grind (arith, nat_tests) in
-      subst (λ (b : Bool). IsSpot (if b then told_by_address ranges else ranges) unknown (first + 4 * k)
+      subst (λ (b : Bool). IsSpot (if b then lines_by_address ranges else ranges) unknown (first + 4 * k)
       (get_or spots k d)) earlier (are.at k d below);
 }
 
 -- the next one
 pub next_left : (ranges : AddressRanges) (unknown : Place) (first i address : ℕ) (spots : List Spot) (d : Spot)
-    → address ≡ first + 4 * i → i < length spots → AreTold ranges unknown first i spots
+    → address ≡ first + 4 * i → i < length spots → AreByAddress ranges unknown first i spots
     → IsSpot ranges unknown address (get_or spots i d)
 next_left ranges unknown first i address spots d at lt are =
     let later : nat_lt i i ≡ false = grind (arith, nat_tests) in
     subst (λ (n : ℕ). IsSpot ranges unknown n (get_or spots i d)) (sym at)
-    (subst (λ (b : Bool). IsSpot (if b then told_by_address ranges else ranges) unknown (first + 4 * i)
+    (subst (λ (b : Bool). IsSpot (if b then lines_by_address ranges else ranges) unknown (first + 4 * i)
     (get_or spots i d)) later (are.at i d lt))
 
-pub next_told : (ranges : AddressRanges) (unknown : Place) (first i : ℕ) (spots : List Spot) (spot : Spot)
-    → i < length spots → AreTold ranges unknown first i spots
-    → IsSpot (told_by_address ranges) unknown (first + 4 * i) spot
-    → AreTold ranges unknown first (i + 1) (set spots i spot)
-next_told ranges unknown first i spots spot lt are is =
+pub next_by_address : (ranges : AddressRanges) (unknown : Place) (first i : ℕ) (spots : List Spot) (spot : Spot)
+    → i < length spots → AreByAddress ranges unknown first i spots
+    → IsSpot (lines_by_address ranges) unknown (first + 4 * i) spot
+    → AreByAddress ranges unknown first (i + 1) (set spots i spot)
+next_by_address ranges unknown first i spots spot lt are is =
     let same : length (set spots i spot) ≡ length spots = length-set spots i spot in
     record {
       within = omega (arith, same, are.within);
-      at = each_set (λ (k : ℕ) (s : Spot). IsSpot (told_up_to (i + 1) k ranges) unknown (first + 4 * k) s) spots i spot
+      at = each_set (λ (k : ℕ) (s : Spot). IsSpot (lines_by_address_up_to (i + 1) k ranges) unknown (first + 4 * k) s) spots i spot
           lt
           (λ k d below apart.
           let alike : nat_lt k i ≡ nat_lt k (i + 1) = grind (arith, nat_tests) in
-          subst (λ (b : Bool). IsSpot (if b then told_by_address ranges else ranges) unknown (first + 4 * k)
+          subst (λ (b : Bool). IsSpot (if b then lines_by_address ranges else ranges) unknown (first + 4 * k)
           (get_or spots k d)) alike (are.at k d below))
           (let now : nat_lt i (i + 1) ≡ true = grind (arith, nat_tests) in
-          subst (λ (b : Bool). IsSpot (if b then told_by_address ranges else ranges) unknown (first + 4 * i) spot)
+          subst (λ (b : Bool). IsSpot (if b then lines_by_address ranges else ranges) unknown (first + 4 * i) spot)
           (sym now) is);
     }
 

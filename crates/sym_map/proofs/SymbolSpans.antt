@@ -10,53 +10,53 @@ use Rattle.std.proofs.lemmas.List.Folds.{find-append}
 use Rattle.std.proofs.lemmas.Bool.Decides.{nat_tests}
 use Rattle.elf_read.specs.declared.symbol.Symbol.{Symbol}
 use Rattle.elf_read.specs.Image.{Image}
-use Rattle.sym_map.specs.declared.range.Seen.{Seen}
-use Rattle.sym_map.specs.inner.Functions.{shown, first_shown}
+use Rattle.sym_map.specs.declared.range.Cover.{Cover}
+use Rattle.sym_map.specs.inner.Functions.{symbol_cover, first_cover}
 use Rattle.sym_map.specs.inner.Limits.{Limit, limit_of, IsNextValue}
 use Rattle.sym_map.specs.inner.Naming.{NumberedSymbol}
-use Rattle.sym_map.specs.declared.range.Said.{Said}
+use Rattle.sym_map.specs.declared.range.Label.{Label}
 use Rattle.sym_map.specs.declared.range.Span.{Span}
-use Rattle.sym_map.specs.declared.range.Seen.TheVariants as what
-use Rattle.sym_map.specs.inner.Spans.{over, given, seen, told}
+use Rattle.sym_map.specs.declared.range.Cover.TheVariants as what
+use Rattle.sym_map.specs.inner.Spans.{or_below, span_cover, cover, label_cover}
 use Rattle.sym_map.specs.Symbols.{candidates, section_end, is_between, is_sized, covers_sized, covers_unsized}
 use Rattle.sym_map.proofs.Members.{Alike, Contains-map, Contains-from_map, Contains-cons, Contains-first, first_or_rest}
-use Rattle.sym_map.proofs.Spans.{over-assoc, over-nothing, seen-push}
+use Rattle.sym_map.proofs.Spans.{or_below-assoc, or_below-nothing, cover-push}
 
 -- ---- one symbol more
 
-shown-or : (o p : Option NumberedSymbol) → shown (option_or o p) ≡ over (shown o) (shown p)
-shown-or None p = refl
-shown-or (Some x) None = refl
-shown-or (Some x) (Some y) = refl
+symbol_cover-or : (o p : Option NumberedSymbol) → symbol_cover (option_or o p) ≡ or_below (symbol_cover o) (symbol_cover p)
+symbol_cover-or None p = refl
+symbol_cover-or (Some x) None = refl
+symbol_cover-or (Some x) (Some y) = refl
 
-first_shown-more : (test : Symbol → Bool) (placed : List NumberedSymbol) (i : ℕ) (d : NumberedSymbol)
+first_cover-more : (test : Symbol → Bool) (placed : List NumberedSymbol) (i : ℕ) (d : NumberedSymbol)
     → i < length placed
-    → first_shown test (take (i + 1) placed)
-    ≡ over (first_shown test (take i placed))
-    (cond (test (get_or placed i d).symbol) (shown (Some (get_or placed i d))) what.Nothing)
-first_shown-more test placed i d lt =
+    → first_cover test (take (i + 1) placed)
+    ≡ or_below (first_cover test (take i placed))
+    (cond (test (get_or placed i d).symbol) (symbol_cover (Some (get_or placed i d))) what.Nothing)
+first_cover-more test placed i d lt =
     let p : NumberedSymbol → Bool = λ (x : NumberedSymbol). test x.symbol in
     let x : NumberedSymbol = get_or placed i d in
-    ap (λ (xs : List NumberedSymbol). shown (find p xs)) (take_more placed i d lt)
-    ∙ ap shown (find-append p (take i placed) (x ∷ []))
-    ∙ shown-or (find p (take i placed)) (find p (x ∷ []))
-    ∙ ap (over (first_shown test (take i placed))) (alone (test x.symbol) x)
+    ap (λ (xs : List NumberedSymbol). symbol_cover (find p xs)) (take_more placed i d lt)
+    ∙ ap symbol_cover (find-append p (take i placed) (x ∷ []))
+    ∙ symbol_cover-or (find p (take i placed)) (find p (x ∷ []))
+    ∙ ap (or_below (first_cover test (take i placed))) (alone (test x.symbol) x)
   where
-    alone : (b : Bool) (x : NumberedSymbol) → shown (cond b (Some x) None) ≡ cond b (shown (Some x)) what.Nothing
+    alone : (b : Bool) (x : NumberedSymbol) → symbol_cover (cond b (Some x) None) ≡ cond b (symbol_cover (Some x)) what.Nothing
     alone true x = refl
     alone false x = refl
 
-pub shown_more : (test : Symbol → Bool) (placed : List NumberedSymbol) (i : ℕ) (d : NumberedSymbol)
-    (before now given : Seen)
+pub first_cover_more : (test : Symbol → Bool) (placed : List NumberedSymbol) (i : ℕ) (d : NumberedSymbol)
+    (before now span_cover : Cover)
     → i < length placed
-    → now ≡ over before (first_shown test (take i placed))
-    → given ≡ cond (test (get_or placed i d).symbol) (shown (Some (get_or placed i d))) what.Nothing
-    → over now given ≡ over before (first_shown test (take (i + 1) placed))
-shown_more test placed i d before now given lt so is =
-    let one : Seen = cond (test (get_or placed i d).symbol) (shown (Some (get_or placed i d))) what.Nothing in
-    ap (λ (h : Seen). over h given) so ∙ ap (over (over before (first_shown test (take i placed)))) is
-    ∙ over-assoc before (first_shown test (take i placed)) one
-    ∙ ap (over before) (sym (first_shown-more test placed i d lt))
+    → now ≡ or_below before (first_cover test (take i placed))
+    → span_cover ≡ cond (test (get_or placed i d).symbol) (symbol_cover (Some (get_or placed i d))) what.Nothing
+    → or_below now span_cover ≡ or_below before (first_cover test (take (i + 1) placed))
+first_cover_more test placed i d before now span_cover lt so is =
+    let one : Cover = cond (test (get_or placed i d).symbol) (symbol_cover (Some (get_or placed i d))) what.Nothing in
+    ap (λ (h : Cover). or_below h span_cover) so ∙ ap (or_below (or_below before (first_cover test (take i placed)))) is
+    ∙ or_below-assoc before (first_cover test (take i placed)) one
+    ∙ ap (or_below before) (sym (first_cover-more test placed i d lt))
 
 -- a symbol that stands there, without its name
 pub record StandsAt (placed : List NumberedSymbol) (i : ℕ) (p : NumberedSymbol) (s : Symbol) : Type 0 where
@@ -69,12 +69,12 @@ pub symbol_at_is : (placed : List NumberedSymbol) (i : ℕ) (p : NumberedSymbol)
 symbol_at_is placed i p s stands = stands.symbol ∙ ap (λ (q : NumberedSymbol). q.symbol) stands.at
 
 pub skipped : (test : Symbol → Bool) (placed : List NumberedSymbol) (i : ℕ) (p : NumberedSymbol) (s : Symbol)
-    (before now : Seen) → StandsAt placed i p s → now ≡ over before (first_shown test (take i placed))
-    → test s ≡ false → now ≡ over before (first_shown test (take (i + 1) placed))
+    (before now : Cover) → StandsAt placed i p s → now ≡ or_below before (first_cover test (take i placed))
+    → test s ≡ false → now ≡ or_below before (first_cover test (take (i + 1) placed))
 skipped test placed i p s before now stands so fails =
     let none : test (get_or placed i p).symbol ≡ false = ap test (sym (symbol_at_is placed i p s stands)) ∙ fails in
-    so ∙ ap (over before) (sym (first_shown-more test placed i p stands.within
-    ∙ rw none (over-nothing (first_shown test (take i placed)))))
+    so ∙ ap (or_below before) (sym (first_cover-more test placed i p stands.within
+    ∙ rw none (or_below-nothing (first_cover test (take i placed)))))
 
 -- ---- which addresses a symbol covers
 
@@ -167,17 +167,17 @@ covers_by_next image limits s a next same not_sized is =
 -- ---- a symbol's span is added
 
 pub pushed : (test : ℕ → Symbol → Bool) (spans : List Span) (placed : List NumberedSymbol) (i : ℕ) (p : NumberedSymbol)
-    (s : Symbol) (before : Seen) (said : Said) (end a : ℕ) → StandsAt placed i p s
-    → (leb s.value a && ltb a end) ≡ test a s → told said ≡ shown (Some p)
-    → seen spans a ≡ over before (first_shown (test a) (take i placed))
-    → seen (spans ++ record { start = s.value; end = end; said = said } ∷ []) a
-    ≡ over before (first_shown (test a) (take (i + 1) placed))
-pushed test spans placed i p s before said end a stands covered is so =
-    let span : Span = record { start = s.value; end = end; said = said } in
+    (s : Symbol) (before : Cover) (label : Label) (end a : ℕ) → StandsAt placed i p s
+    → (leb s.value a && ltb a end) ≡ test a s → label_cover label ≡ symbol_cover (Some p)
+    → cover spans a ≡ or_below before (first_cover (test a) (take i placed))
+    → cover (spans ++ record { start = s.value; end = end; label = label } ∷ []) a
+    ≡ or_below before (first_cover (test a) (take (i + 1) placed))
+pushed test spans placed i p s before label end a stands covered is so =
+    let span : Span = record { start = s.value; end = end; label = label } in
     let there : NumberedSymbol = get_or placed i p in
-    let gives : given span a ≡ cond (test a there.symbol) (shown (Some there)) what.Nothing =
-    ap (λ b. cond b (told said) what.Nothing) (covered ∙ ap (test a) (symbol_at_is placed i p s stands))
-    ∙ ap (λ (h : Seen). cond (test a there.symbol) h what.Nothing)
-    (is ∙ ap (λ (q : NumberedSymbol). shown (Some q)) stands.at) in
-    seen-push spans span a
-    ∙ shown_more (test a) placed i p before (seen spans a) (given span a) stands.within so gives
+    let gives : span_cover span a ≡ cond (test a there.symbol) (symbol_cover (Some there)) what.Nothing =
+    ap (λ b. cond b (label_cover label) what.Nothing) (covered ∙ ap (test a) (symbol_at_is placed i p s stands))
+    ∙ ap (λ (h : Cover). cond (test a there.symbol) h what.Nothing)
+    (is ∙ ap (λ (q : NumberedSymbol). symbol_cover (Some q)) stands.at) in
+    cover-push spans span a
+    ∙ first_cover_more (test a) placed i p before (cover spans a) (span_cover span a) stands.within so gives

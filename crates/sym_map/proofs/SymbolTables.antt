@@ -15,16 +15,16 @@ use Rattle.elf_read.specs.declared.symbol.Symbol.{Symbol}
 use Rattle.elf_read.specs.Image.{Image}
 use Rattle.event_costs.specs.declared.numbers.FileId.{FileId}
 use Rattle.sym_map.specs.declared.function.Function.{Function}
-use Rattle.sym_map.specs.declared.range.Seen.{Seen}
+use Rattle.sym_map.specs.declared.range.Cover.{Cover}
 use Rattle.sym_map.specs.declared.range.Range.{Range}
 use Rattle.sym_map.specs.declared.range.Span.{Span}
 use Rattle.sym_map.specs.declared.range.SymbolHere.{SymbolHere}
 use Rattle.sym_map.specs.FunctionOrder.{by_function}
-use Rattle.sym_map.specs.inner.Functions.{key_of, shown, first_shown}
+use Rattle.sym_map.specs.inner.Functions.{key_of, symbol_cover, first_cover}
 use Rattle.name_numbers.specs.Keys.{NumberEach}
 use Rattle.sym_map.specs.inner.Limits.{Limit, limit_of}
-use Rattle.sym_map.specs.inner.Naming.{Named, NumberedSymbol, nameless, parted, is_preferred, parted_candidates}
-use Rattle.sym_map.specs.inner.Spans.{over, seen, IsCutOf}
+use Rattle.sym_map.specs.inner.Naming.{NamedSymbol, NumberedSymbol, nameless, name_beside, is_preferred, candidates_with_names}
+use Rattle.sym_map.specs.inner.Spans.{or_below, cover, IsCutOf}
 use Rattle.sym_map.specs.inner.Shows.{Shows}
 use Rattle.sym_map.specs.Ranges.{symbol_of}
 use Rattle.sym_map.specs.inner.SymbolTable.{IsSymbolOf}
@@ -75,24 +75,24 @@ all_same p q same (x ∷ xs) = rw (same x, all_same p q same xs) refl
 
 -- ---- limits
 
-pub limits_alike : (image : Image) (sorted : List Named) (placed : List NumberedSymbol)
-    → IsPermutation (parted_candidates image) sorted
-    → map (λ (p : NumberedSymbol). p.symbol) placed ≡ map (λ (c : Named). c.symbol) sorted
+pub limits_alike : (image : Image) (sorted : List NamedSymbol) (placed : List NumberedSymbol)
+    → IsPermutation (candidates_with_names image) sorted
+    → map (λ (p : NumberedSymbol). p.symbol) placed ≡ map (λ (c : NamedSymbol). c.symbol) sorted
     → Alike (map (λ (p : NumberedSymbol). limit_of p.symbol) placed) (map limit_of (candidates image))
 limits_alike image sorted placed moved symbols =
-    let of_named : Named → Limit = λ (c : Named). limit_of c.symbol in
+    let of_named : NamedSymbol → Limit = λ (c : NamedSymbol). limit_of c.symbol in
     let of_placed : NumberedSymbol → Limit = λ (p : NumberedSymbol). limit_of p.symbol in
     let same : map of_placed placed ≡ map of_named sorted =
     sym (nested (λ (p : NumberedSymbol). p.symbol) limit_of placed) ∙ ap (map limit_of) symbols
-    ∙ nested (λ (c : Named). c.symbol) limit_of sorted in
+    ∙ nested (λ (c : NamedSymbol). c.symbol) limit_of sorted in
     Alike-trans (map of_placed placed) (map of_named sorted) (map limit_of (candidates image))
     (Alike-refl (map of_placed placed) (map of_named sorted) same)
-    (Alike-trans (map of_named sorted) (map of_named (parted_candidates image)) (map limit_of (candidates image))
-    (Alike-permutation (map of_named sorted) (map of_named (parted_candidates image))
-    (IsPermutation-map of_named sorted (parted_candidates image)
-    (IsPermutation-sym (parted_candidates image) sorted moved)))
-    (Alike-refl (map of_named (parted_candidates image)) (map limit_of (candidates image))
-    (nested (parted image) of_named (candidates image))))
+    (Alike-trans (map of_named sorted) (map of_named (candidates_with_names image)) (map limit_of (candidates image))
+    (Alike-permutation (map of_named sorted) (map of_named (candidates_with_names image))
+    (IsPermutation-map of_named sorted (candidates_with_names image)
+    (IsPermutation-sym (candidates_with_names image) sorted moved)))
+    (Alike-refl (map of_named (candidates_with_names image)) (map limit_of (candidates image))
+    (nested (name_beside image) of_named (candidates image))))
 
 -- a candidate's section is one of the file's
 candidate_within : (image : Image) (s : Symbol) → is_candidate image s ≡ true → s.section < length image.sections
@@ -126,22 +126,22 @@ sections_within image placed alike k d lt =
 
 -- ---- the symbol that is seen
 
-module _ (functions : List Function) (key : Named → Function) where
-  abbrev Goes : SymbolHere → Named → Type 0
+module _ (functions : List Function) (key : NamedSymbol → Function) where
+  abbrev Goes : SymbolHere → NamedSymbol → Type 0
   Goes here n = (slice_get functions here.func.0 ≡ Some (key n)) × (here.value ≡ n.symbol.value)
 
-  pairs : (test : Symbol → Bool) (placed : List NumberedSymbol) (sorted : List Named) (numbers : List ℕ)
-      → map (λ (p : NumberedSymbol). p.symbol) placed ≡ map (λ (c : Named). c.symbol) sorted
+  pairs : (test : Symbol → Bool) (placed : List NumberedSymbol) (sorted : List NamedSymbol) (numbers : List ℕ)
+      → map (λ (p : NumberedSymbol). p.symbol) placed ≡ map (λ (c : NamedSymbol). c.symbol) sorted
       → map (λ (p : NumberedSymbol). p.number) placed ≡ numbers
       → NumberEach functions numbers (map key sorted)
-      → Shows Goes (symbol_of (first_shown test placed)) (find (λ (n : Named). test n.symbol) sorted)
+      → Shows Goes (symbol_of (first_cover test placed)) (find (λ (n : NamedSymbol). test n.symbol) sorted)
   pairs test [] [] numbers e f each = tt
   pairs test [] (n ∷ ns) numbers e f each = absurd (cc)
   pairs test (p ∷ ps) [] numbers e f each = absurd (cc)
   pairs test (p ∷ ps) (n ∷ ns) [] e f each = absurd (cc)
   pairs test (p ∷ ps) (n ∷ ns) (m ∷ ms) e f each =
       let symbol : p.symbol ≡ n.symbol = cc in
-      let symbols : map (λ (p : NumberedSymbol). p.symbol) ps ≡ map (λ (c : Named). c.symbol) ns = cc in
+      let symbols : map (λ (p : NumberedSymbol). p.symbol) ps ≡ map (λ (c : NamedSymbol). c.symbol) ns = cc in
       let number : p.number ≡ m = cc in
       let numbers : map (λ (p : NumberedSymbol). p.number) ps ≡ ms = cc in
       let named_so : slice_get functions p.number ≡ Some (key n) = ap (slice_get functions) number
@@ -150,20 +150,20 @@ module _ (functions : List Function) (key : Named → Function) where
       (pairs test ps ns ms symbols numbers (rest_numbered functions m ms (key n) (map key ns) each))
     where
       go : (b c : Bool) → b ≡ c → Goes (record { func = record { 0 = p.number }; value = p.symbol.value }) n
-          → Shows Goes (symbol_of (first_shown test ps)) (find (λ (n : Named). test n.symbol) ns)
-          → Shows Goes (symbol_of (shown (cond b (Some p) (find (λ (p : NumberedSymbol). test p.symbol) ps))))
-          (cond c (Some n) (find (λ (n : Named). test n.symbol) ns))
+          → Shows Goes (symbol_of (first_cover test ps)) (find (λ (n : NamedSymbol). test n.symbol) ns)
+          → Shows Goes (symbol_of (symbol_cover (cond b (Some p) (find (λ (p : NumberedSymbol). test p.symbol) ps))))
+          (cond c (Some n) (find (λ (n : NamedSymbol). test n.symbol) ns))
       go true true same here rest = here
       go false false same here rest = rest
       go true false same here rest = absurd (cc)
       go false true same here rest = absurd (cc)
 
-pub best_named : (image : Image) (f : Symbol → Named)
+pub best_named : (image : Image) (f : Symbol → NamedSymbol)
     → ((x y : Symbol) → is_preferred (f x) (f y) ≡ is_lt (preference image x y)) → (xs : List Symbol)
-    → find (λ (n : Named). list_all (λ t. not (is_preferred t n)) (map f xs)) (map f xs)
+    → find (λ (n : NamedSymbol). list_all (λ t. not (is_preferred t n)) (map f xs)) (map f xs)
     ≡ option_map f (best_of image xs)
 best_named image f agree xs =
-    let least : Named → Bool = λ n. list_all (λ t. not (is_preferred t n)) (map f xs) in
+    let least : NamedSymbol → Bool = λ n. list_all (λ t. not (is_preferred t n)) (map f xs) in
     find-map f least xs
     ∙ ap (option_map f)
     (find_same (λ s. least (f s)) (is_best image xs)
@@ -171,22 +171,22 @@ best_named image f agree xs =
     ∙ all_same (λ t. not (is_preferred (f t) (f s))) (λ t. not (is_lt (preference image t s)))
     (λ t. ap not (agree t s)) xs) xs)
 
-best_is : (image : Image) (sorted : List Named) (test : Symbol → Bool) → IsPermutation (parted_candidates image) sorted
-    → IsSortedBy is_preferred sorted → IsStableBy is_preferred (parted_candidates image) sorted
-    → find (λ (n : Named). test n.symbol) sorted
-    ≡ option_map (parted image) (best_of image (filter (λ s. test (nameless s)) (candidates image)))
+best_is : (image : Image) (sorted : List NamedSymbol) (test : Symbol → Bool) → IsPermutation (candidates_with_names image) sorted
+    → IsSortedBy is_preferred sorted → IsStableBy is_preferred (candidates_with_names image) sorted
+    → find (λ (n : NamedSymbol). test n.symbol) sorted
+    ≡ option_map (name_beside image) (best_of image (filter (λ s. test (nameless s)) (candidates image)))
 best_is image sorted test moved in_order stable =
-    let p : Named → Bool = λ (n : Named). test n.symbol in
-    let least : List Named → Named → Bool = λ ns n. list_all (λ t. not (is_preferred t n)) ns in
-    first_is_least is_preferred preferred_weak p (parted_candidates image) sorted moved in_order stable
-    ∙ ap (λ (ns : List Named). find (least ns) ns) (filter-map (parted image) p (candidates image))
-    ∙ best_named image (parted image) (λ x y. refl) (filter (λ s. test (nameless s)) (candidates image))
+    let p : NamedSymbol → Bool = λ (n : NamedSymbol). test n.symbol in
+    let least : List NamedSymbol → NamedSymbol → Bool = λ ns n. list_all (λ t. not (is_preferred t n)) ns in
+    first_is_least is_preferred preferred_weak p (candidates_with_names image) sorted moved in_order stable
+    ∙ ap (λ (ns : List NamedSymbol). find (least ns) ns) (filter-map (name_beside image) p (candidates image))
+    ∙ best_named image (name_beside image) (λ x y. refl) (filter (λ s. test (nameless s)) (candidates image))
 
 module _ (image : Image) (lines : List Range) (unknown : FileId) (functions : List Function) (numbers : List ℕ)
-    (sorted : List Named) (placed : List NumberedSymbol)
-    (moved : IsPermutation (parted_candidates image) sorted) (in_order : IsSortedBy is_preferred sorted)
-    (stable : IsStableBy is_preferred (parted_candidates image) sorted)
-    (symbols : map (λ (p : NumberedSymbol). p.symbol) placed ≡ map (λ (c : Named). c.symbol) sorted)
+    (sorted : List NamedSymbol) (placed : List NumberedSymbol)
+    (moved : IsPermutation (candidates_with_names image) sorted) (in_order : IsSortedBy is_preferred sorted)
+    (stable : IsStableBy is_preferred (candidates_with_names image) sorted)
+    (symbols : map (λ (p : NumberedSymbol). p.symbol) placed ≡ map (λ (c : NamedSymbol). c.symbol) sorted)
     (funcs : map (λ (p : NumberedSymbol). p.number) placed ≡ numbers)
     (each : NumberEach functions numbers (map (key_of lines unknown) sorted))
     (values : All (λ (s : Symbol). s.value < 2 ^ 32) (candidates image)) where
@@ -194,34 +194,34 @@ module _ (image : Image) (lines : List Range) (unknown : FileId) (functions : Li
   Stands = IsSymbolOf (symbol_key image lines unknown) functions
 
   unnamed : (h : Option SymbolHere) (o : Option Symbol)
-      → Shows (Goes functions (key_of lines unknown)) h (option_map (parted image) o) → Shows Stands h o
+      → Shows (Goes functions (key_of lines unknown)) h (option_map (name_beside image) o) → Shows Stands h o
   unnamed None None shows = tt
   unnamed None (Some s) shows = shows
   unnamed (Some h) None shows = shows
   unnamed (Some h) (Some s) shows = shows
 
   shown_best : (test : Symbol → Bool)
-      → Shows Stands (symbol_of (first_shown test placed))
+      → Shows Stands (symbol_of (first_cover test placed))
       (best_of image (filter (λ s. test (nameless s)) (candidates image)))
   shown_best test =
-      unnamed (symbol_of (first_shown test placed))
+      unnamed (symbol_of (first_cover test placed))
       (best_of image (filter (λ s. test (nameless s)) (candidates image)))
-      (subst (Shows (Goes functions (key_of lines unknown)) (symbol_of (first_shown test placed)))
+      (subst (Shows (Goes functions (key_of lines unknown)) (symbol_of (first_cover test placed)))
       (best_is image sorted test moved in_order stable)
       (pairs functions (key_of lines unknown) test placed sorted numbers symbols funcs each))
 
-  symbol_over : (o : Option NumberedSymbol) (below : Seen)
-      → symbol_of (over (shown o) below) ≡ option_or (symbol_of (shown o)) (symbol_of below)
+  symbol_over : (o : Option NumberedSymbol) (below : Cover)
+      → symbol_of (or_below (symbol_cover o) below) ≡ option_or (symbol_of (symbol_cover o)) (symbol_of below)
   symbol_over None below = refl
   symbol_over (Some p) below = refl
 
   pub seen_symbol : (a : ℕ) → Shows Stands
-      (symbol_of (over (first_shown (covers_sized a) placed) (first_shown (covers_unsized image a) placed)))
+      (symbol_of (or_below (first_cover (covers_sized a) placed) (first_cover (covers_unsized image a) placed)))
       (symbol_at image a)
   unfolding symbol_at
   seen_symbol a =
-      let sized : Seen = first_shown (covers_sized a) placed in
-      let unsized : Seen = first_shown (covers_unsized image a) placed in
+      let sized : Cover = first_cover (covers_sized a) placed in
+      let unsized : Cover = first_cover (covers_unsized image a) placed in
       subst (λ (o : Option SymbolHere). Shows Stands o (symbol_at image a))
       (sym (symbol_over (find (λ (p : NumberedSymbol). covers_sized a p.symbol) placed) unsized))
       (Shows-or Stands (symbol_of sized) (symbol_of unsized)
@@ -231,20 +231,20 @@ module _ (image : Image) (lines : List Range) (unknown : FileId) (functions : Li
 
   keys_alike : Alike (map (key_of lines unknown) sorted) (map (symbol_key image lines unknown) (candidates image))
   keys_alike =
-      Alike-trans (map (key_of lines unknown) sorted) (map (key_of lines unknown) (parted_candidates image))
+      Alike-trans (map (key_of lines unknown) sorted) (map (key_of lines unknown) (candidates_with_names image))
       (map (symbol_key image lines unknown) (candidates image))
-      (Alike-permutation (map (key_of lines unknown) sorted) (map (key_of lines unknown) (parted_candidates image))
-      (IsPermutation-map (key_of lines unknown) sorted (parted_candidates image)
-      (IsPermutation-sym (parted_candidates image) sorted moved)))
-      (Alike-refl (map (key_of lines unknown) (parted_candidates image))
+      (Alike-permutation (map (key_of lines unknown) sorted) (map (key_of lines unknown) (candidates_with_names image))
+      (IsPermutation-map (key_of lines unknown) sorted (candidates_with_names image)
+      (IsPermutation-sym (candidates_with_names image) sorted moved)))
+      (Alike-refl (map (key_of lines unknown) (candidates_with_names image))
       (map (symbol_key image lines unknown) (candidates image))
-      (nested (parted image) (key_of lines unknown) (candidates image)))
+      (nested (name_beside image) (key_of lines unknown) (candidates image)))
 
   pub are_symbols : (spans : List Span) (ranges : List Range) (number : ℕ) → IsStrictlySortedBy by_function functions
       → Alike functions (unknown_key unknown ∷ map (key_of lines unknown) sorted) → length functions < 2 ^ 32
       → slice_get functions number ≡ Some (unknown_key unknown)
-      → ((a : ℕ) → seen spans a ≡ over (first_shown (covers_sized a) placed)
-      (first_shown (covers_unsized image a) placed)) → IsCutOf spans ranges
+      → ((a : ℕ) → cover spans a ≡ or_below (first_cover (covers_sized a) placed)
+      (first_cover (covers_unsized image a) placed)) → IsCutOf spans ranges
       → AreSymbolsOf image lines unknown functions (record { 0 = number }) ranges
   are_symbols spans ranges number rise alike few at seen_so cut = record {
     functions_rise = rise;
@@ -257,6 +257,6 @@ module _ (image : Image) (lines : List Range) (unknown : FileId) (functions : Li
     values = values;
     unknown_is = at;
     rise = cut.rise;
-    shown = λ a small. subst (λ (h : Seen). Shows Stands (symbol_of h) (symbol_at image a))
+    shows = λ a small. subst (λ (h : Cover). Shows Stands (symbol_of h) (symbol_at image a))
         (sym (cut.same a small ∙ seen_so a)) (seen_symbol a);
   }

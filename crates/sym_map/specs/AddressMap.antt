@@ -4,9 +4,9 @@ use Rattle.sym_map.specs.Ranges.{AddressRanges}
 use Rattle.sym_map.specs.SymbolMap.{SymbolMap}
 
 -- each address is a line of its own
-abbrev pub told_by_address : AddressRanges → AddressRanges
-told_by_address ranges = record ranges { by_address = true }
+abbrev pub lines_by_address : AddressRanges → AddressRanges
+lines_by_address ranges = record ranges { by_address = true }
 
 -- Each address is a line of its own in no file; functions and entries are those of a map.
 unfoldable pub address_map : SymbolMap → SymbolMap
-address_map m = record m { ranges = told_by_address m.ranges }
+address_map m = record m { ranges = lines_by_address m.ranges }

@@ -6,7 +6,7 @@ use Rattle.elf_read.specs.Image.{Image}
 use Rattle.dwarf_line.specs.Program.{SequenceOf}
 use Rattle.dwarf_line.specs.LineRow.{LineRow, line_at}
 use Rattle.byte_text.specs.Names as names
-use Rattle.byte_text.specs.Names.{cleaned}
+use Rattle.byte_text.specs.Names.{clean_name}
 use Rattle.sym_map.specs.Symbols.{symbol_name, candidates, symbol_at}
 
 -- What makes a function: the cleaned file of the line where it begins, and its cleaned name. Symbols with the same of
@@ -26,7 +26,7 @@ unknown_function = record { file = unknown_name; name = unknown_name }
 -- the function of a symbol
 abbrev pub function_of : Image → List (SequenceOf LineRow) → Symbol → Identity
 function_of image lines symbol =
-    record { file = cleaned (line_at lines symbol.value).file; name = cleaned (symbol_name image symbol) }
+    record { file = clean_name (line_at lines symbol.value).file; name = clean_name (symbol_name image symbol) }
 
 -- the function of an address
 abbrev pub function_at : Image → List (SequenceOf LineRow) → ℕ → Identity
@@ -42,7 +42,7 @@ pub record Location : Type 0 where
 abbrev pub location_at : Image → List (SequenceOf LineRow) → ℕ → Location
 location_at image lines address = record {
   function = function_at image lines address;
-  file = cleaned (line_at lines address).file;
+  file = clean_name (line_at lines address).file;
   line = (line_at lines address).line;
 }
 
@@ -68,4 +68,4 @@ functions_of image lines = unknown_function ∷ map (function_of image lines) (c
 
 -- all files: those of the rows of the line table, and the unknown one
 abbrev pub files_of : List (SequenceOf LineRow) → List (List ℕ)
-files_of lines = unknown_name ∷ map (λ row. cleaned row.file) (flat_map (λ sequence. sequence.rows) lines)
+files_of lines = unknown_name ∷ map (λ row. clean_name row.file) (flat_map (λ sequence. sequence.rows) lines)

@@ -6,8 +6,8 @@ use Rattle.dwarf_line.specs.LineRow.{last_at}
 use Rattle.sym_map.specs.declared.range.Here.{Here}
 use Rattle.sym_map.specs.declared.range.LineHere.{LineHere}
 use Rattle.sym_map.specs.declared.range.Range.{Range}
-use Rattle.sym_map.specs.declared.range.Seen.{Seen}
-use Rattle.sym_map.specs.declared.range.Seen.TheVariants as what
+use Rattle.sym_map.specs.declared.range.Cover.{Cover}
+use Rattle.sym_map.specs.declared.range.Cover.TheVariants as what
 use Rattle.sym_map.specs.declared.range.SymbolHere.{SymbolHere}
 
 -- the ranges of the symbols, and those of the lines; and whether each address is a line of its own in their place
@@ -20,17 +20,17 @@ abbrev pub start_of : Range → ℕ
 start_of range = range.start
 
 -- what the ranges say of an address: what the last one that begins at or below it says
-abbrev pub seen_at : List Range → ℕ → Seen
-seen_at ranges address = option_map_or (λ range. range.seen) (last_at start_of address ranges) what.Nothing
+abbrev pub cover_at : List Range → ℕ → Cover
+cover_at ranges address = option_map_or (λ range. range.cover) (last_at start_of address ranges) what.Nothing
 
 -- the symbol that is seen
-abbrev pub symbol_of : Seen → Option SymbolHere
+abbrev pub symbol_of : Cover → Option SymbolHere
 symbol_of what.Nothing = None
 symbol_of (what.Symbol symbol) = Some symbol
 symbol_of (what.Line line) = None
 
 -- the line that is seen
-abbrev pub line_of : Seen → Option LineHere
+abbrev pub line_of : Cover → Option LineHere
 line_of what.Nothing = None
 line_of (what.Symbol symbol) = None
 line_of (what.Line line) = Some line
@@ -44,13 +44,13 @@ abbrev pub address_line : ℕ → ℕ
 address_line address = min address 4294967295
 
 -- the line of an address at which this is seen, where each address is a line of its own, or not
-abbrev pub line_told : Bool → ℕ → Seen → Option LineHere
-line_told true address seen = Some (record { file = no_file; line = address_line address })
-line_told false address seen = line_of seen
+abbrev pub line_or_address : Bool → ℕ → Cover → Option LineHere
+line_or_address true address cover = Some (record { file = no_file; line = address_line address })
+line_or_address false address cover = line_of cover
 
 -- what is known of an address
 abbrev pub here_at : AddressRanges → ℕ → Here
 here_at ranges address = record {
-  symbol = symbol_of (seen_at ranges.symbols address);
-  line = line_told ranges.by_address address (seen_at ranges.lines address);
+  symbol = symbol_of (cover_at ranges.symbols address);
+  line = line_or_address ranges.by_address address (cover_at ranges.lines address);
 }

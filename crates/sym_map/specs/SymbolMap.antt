@@ -6,7 +6,7 @@ use Rattle.std.specs.List.Sorted.{IsStrictlySortedBy}
 use Rattle.std.specs.Ordering.{nat_cmp, ordering_then}
 use Rattle.std.specs.Cmp.Lexicographic.{slice_cmp}
 use Rattle.std.specs.declared.cmp.Ordering.{Ordering}
-use Rattle.byte_text.specs.Names.{cleaned}
+use Rattle.byte_text.specs.Names.{clean_name}
 use Rattle.event_costs.specs.declared.numbers.FileId.{FileId}
 use Rattle.event_costs.specs.declared.numbers.FuncId.{FuncId}
 use Rattle.event_costs.specs.Keys.{Place}
@@ -97,7 +97,7 @@ IsFile m file = file.0 < length m.files
 
 -- the text is a cleaned name
 abbrev pub IsCleaned : List ℕ → Type 0
-IsCleaned text = (name : List ℕ) × (text ≡ cleaned name)
+IsCleaned text = (name : List ℕ) × (text ≡ clean_name name)
 
 -- What holds of every map, in its own words: names are cleaned texts, functions and files differ, and the lines of
 -- places and entries have 32 bits.

@@ -1,7 +1,7 @@
 //! Builds the map of a program.
 
 ghost use Rattle.std.specs.Prelude.{◌≡◌, ◌<◌, ◌^◌, ◌↔◌, ℕ, IfOk, Contains};
-ghost use Rattle.dwarf_line.specs.LineTable.{sequences_of};
+ghost use Rattle.dwarf_line.specs.Rows.{sequences_of};
 ghost use Rattle.sym_map.specs.SymbolMap.{identities, identity_of, location_of, place_of, is_entry_at};
 ghost use Rattle.sym_map.specs.SymbolMap.{entry_of, IsFunc, RiseByIdentity};
 ghost use Rattle.sym_map.specs.SymbolMap.{RiseByBytes};
@@ -15,9 +15,9 @@ use crate::lines::read_lines;
 use crate::place_index::PlaceIndex;
 use crate::symbol_map::SymMap;
 use crate::symbols::read_symbols;
+use byte_text::OutOfMemory;
 use dwarf_line::Rows;
 use elf_read::Elf;
-use byte_text::OutOfMemory;
 use event_costs::Place;
 use std::alloc::Global;
 

@@ -10,11 +10,11 @@ ghost use Rattle.sym_map.specs.Symbols.{section_of, is_executable, may_be_code, 
 ghost use Rattle.sym_map.specs.Symbols.{is_candidate, is_sized, binding_rank};
 
 use crate::nameless::Nameless;
+use byte_text::OutOfMemory;
 use elf_read::standard::{
     SHF_EXECINSTR, SHN_LORESERVE, SHN_UNDEF, STB_GLOBAL, STB_WEAK, STT_FUNC, STT_NOTYPE,
 };
 use elf_read::{Elf, Section, Symbol};
-use byte_text::OutOfMemory;
 use name_numbers::TextPlace;
 use std::alloc::Global;
 use std::cmp::Ordering;

@@ -4,7 +4,7 @@ ghost use Rattle.std.specs.Prelude.{◌≡◌, ◌∷◌, [], IfOk};
 ghost use Rattle.sym_map.specs.inner.Spans.{IsCutOf};
 
 use crate::merge::merge;
-use crate::pile::{Pile, piled};
+use crate::pile::{Pile, pile_up};
 use crate::range::{Range, Span};
 use byte_text::OutOfMemory;
 use std::alloc::Global;
@@ -26,7 +26,7 @@ pub(crate) fn cut(alloc: Global, spans: &[Span]) -> Result<Vec<Range>, OutOfMemo
         0 => Ok(Vec::new(alloc)),
         1 => ranges_of(alloc, &spans[0]),
         len => {
-            if let Some(ranges) = piled(alloc, spans)? {
+            if let Some(ranges) = pile_up(alloc, spans)? {
                 return Ok(ranges);
             }
             let (top, bottom) = spans.split_at(len / 2);
@@ -41,7 +41,7 @@ pub(crate) fn cut(alloc: Global, spans: &[Span]) -> Result<Vec<Range>, OutOfMemo
 pub(crate) fn cut_taking(alloc: Global, spans: Vec<Span>) -> Result<Vec<Range>, OutOfMemory>
     ensures { IfOk result (λ ranges. IsCutOf spans.items ranges.items) }
 {
-    if let Some(ranges) = piled(alloc, &spans)? {
+    if let Some(ranges) = pile_up(alloc, &spans)? {
         return Ok(ranges);
     }
     let mut top = spans;

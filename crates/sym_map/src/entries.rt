@@ -3,9 +3,9 @@
 ghost use Rattle.std.specs.Prelude.{◌≡◌, ◌<◌, ◌^◌, ℕ, IfOk, OnOk, IfSome, Some, None, All, length};
 ghost use Rattle.std.specs.Prelude.{find, option_map, slice_set, slice_index_or, MatchOption};
 ghost use Rattle.std.specs.Option.{option_or};
-ghost use Rattle.sym_map.specs.Ranges.{seen_at, symbol_of};
+ghost use Rattle.sym_map.specs.Ranges.{cover_at, symbol_of};
 ghost use Rattle.sym_map.specs.inner.Rising.{Rise};
-ghost use Rattle.sym_map.specs.inner.Entries.{entered, enters, start_of_first};
+ghost use Rattle.sym_map.specs.inner.Entries.{entered_func, enters, start_of_first};
 
 use crate::range::Range;
 use byte_text::OutOfMemory;
@@ -13,12 +13,12 @@ use event_costs::FuncId;
 use std::alloc::Global;
 
 /// The function that begins where the range does.
-fn entered(range: &Range) -> Option<FuncId>
-    ensures func { result ≡ entered range.now }
+fn entered_func(range: &Range) -> Option<FuncId>
+    ensures func { result ≡ entered_func range.now }
     ensures start { range.now.start < 2 ^ 32 }
 {
     let start = range.start;
-    match range.seen.symbol() {
+    match range.cover.symbol() {
         Some(symbol) if symbol.value == start => Some(symbol.func),
         _ => None,
     }
@@ -42,7 +42,7 @@ pub(crate) fn entries(
 ) -> Result<Vec<Option<u32>>, OutOfMemory>
     requires rise { Rise ranges.now }
     requires known { (address : ℕ) → address < 2 ^ 32
-        → IfSome (symbol_of (seen_at ranges.now address)) (λ symbol. symbol.func.0 < count) }
+        → IfSome (symbol_of (cover_at ranges.now address)) (λ symbol. symbol.func.0 < count) }
     ensures as_many { IfOk result (λ entries. length entries.items ≡ count) }
     ensures each { IfOk result (λ entries. (func : ℕ) → func < count
         → slice_index_or entries.items func None ≡ start_of_first func ranges.now) }
@@ -50,7 +50,7 @@ pub(crate) fn entries(
 {
     let mut entries = vec![in alloc; None; count]?;
     'every: for range in ranges {
-        if let Some(func) = entered(range) {
+        if let Some(func) = entered_func(range) {
             note(&mut entries, func, range.start);
         }
     }

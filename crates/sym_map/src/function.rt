@@ -10,7 +10,7 @@ ghost use Rattle.sym_map.specs.inner.Rising.{Rise};
 
 use crate::functions::Functions;
 use crate::lines::Lines;
-use crate::range::seen_at;
+use crate::range::cover_at;
 use byte_text::{OutOfMemory, TextRef};
 use event_costs::{FileId, FuncId};
 use std::alloc::Global;
@@ -27,7 +27,7 @@ pub(crate) fn home_at(lines: &Lines, address: u32) -> FileId
     requires { Rise lines.now.ranges.items }
     ensures { result ≡ home_at lines.now.ranges.items lines.now.unknown address }
 {
-    match seen_at(&lines.ranges, address).line() {
+    match cover_at(&lines.ranges, address).line() {
         Some(line) => line.file,
         None => lines.unknown,
     }

@@ -1,11 +1,11 @@
 //! What is known of all addresses.
 
 ghost use Rattle.std.specs.Prelude.{◌≡◌, ◌≤◌, IfOk, length};
-ghost use Rattle.sym_map.specs.Ranges.{here_at, line_told};
+ghost use Rattle.sym_map.specs.Ranges.{here_at, line_or_address};
 ghost use Rattle.sym_map.specs.inner.Rising.{AllRise};
 ghost use Rattle.sym_map.specs.inner.Nearby.{here_by};
 
-use crate::range::{Here, LineHere, Range, Seen, number_near, said_by, seen_at};
+use crate::range::{Cover, Here, LineHere, Range, cover_at, cover_by_number, number_near};
 use byte_text::OutOfMemory;
 use event_costs::FileId;
 use std::alloc::Global;
@@ -61,8 +61,8 @@ impl Ranges {
         ensures { result ≡ here_at self.now address }
     {
         Here {
-            symbol: seen_at(&self.symbols, address).symbol(),
-            line: line_told(self.by_address, address, seen_at(&self.lines, address)),
+            symbol: cover_at(&self.symbols, address).symbol(),
+            line: line_or_address(self.by_address, address, cover_at(&self.lines, address)),
         }
     }
 
@@ -86,16 +86,20 @@ impl Ranges {
         ensures { result ≡ here_by self.now near address }
     {
         Here {
-            symbol: said_by(&self.symbols, near.symbol).symbol(),
-            line: line_told(self.by_address, address, said_by(&self.lines, near.line)),
+            symbol: cover_by_number(&self.symbols, near.symbol).symbol(),
+            line: line_or_address(
+                self.by_address,
+                address,
+                cover_by_number(&self.lines, near.line),
+            ),
         }
     }
 }
 
 /// The line of an address at which this is seen.
 #[inline(always)]
-fn line_told(by_address: bool, address: u32, seen: Seen) -> Option<LineHere>
-    ensures { result ≡ line_told by_address address seen }
+fn line_or_address(by_address: bool, address: u32, cover: Cover) -> Option<LineHere>
+    ensures { result ≡ line_or_address by_address address cover }
 {
     if by_address {
         return Some(LineHere {
@@ -103,5 +107,5 @@ fn line_told(by_address: bool, address: u32, seen: Seen) -> Option<LineHere>
             line: address,
         });
     }
-    seen.line()
+    cover.line()
 }

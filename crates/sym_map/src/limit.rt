@@ -3,8 +3,8 @@
 ghost use Rattle.std.specs.Prelude.{◌≡◌, ◌<◌, ◌∷◌, ◌++◌, [], ℕ, List, IfOk, length};
 ghost use Rattle.sym_map.specs.inner.Limits.{Limit, limit_of, AreLowest, IsBelow, IsLowest, IsNextValue};
 
-use elf_read::{Elf, Symbol};
 use byte_text::OutOfMemory;
+use elf_read::{Elf, Symbol};
 use std::alloc::Global;
 
 /// The least value of a section's candidates, and the next greater one.

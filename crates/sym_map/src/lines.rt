@@ -4,7 +4,7 @@ ghost use Rattle.std.specs.Prelude.{◌≡◌, ◌<◌, ◌^◌, ◌↔◌, ◌+
 ghost use Rattle.std.specs.Prelude.{slice_index};
 ghost use Rattle.std.specs.Ordering.{nat_cmp};
 ghost use Rattle.std.specs.List.Sorted.{IsStrictlySortedBy};
-ghost use Rattle.dwarf_line.specs.LineTable.{IsPlaced, IsRising, row_address, sequence_in, sequences_of};
+ghost use Rattle.dwarf_line.specs.Rows.{IsPlaced, IsRising, row_address, sequence_in, sequences_of};
 ghost use Rattle.sym_map.specs.inner.Lines.{cleaned_file, AreLinesOf};
 ghost use Rattle.sym_map.specs.inner.Rows.{all_rows, rows_in, IsBounded};
 

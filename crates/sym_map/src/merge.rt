@@ -2,12 +2,12 @@
 
 ghost use Rattle.std.specs.Prelude.{◌≡◌, ◌+◌, ◌<◌, ◌≤◌, ℕ, length, take, IfOk};
 ghost use Rattle.std.specs.Prelude.{slice_index_or};
-ghost use Rattle.sym_map.specs.Ranges.{seen_at};
+ghost use Rattle.sym_map.specs.Ranges.{cover_at};
 ghost use Rattle.sym_map.specs.inner.Rising.{Rise};
 ghost use Rattle.sym_map.specs.inner.Spans.{IsMergeOf, IsPassed, IsNextStart};
 ghost use Rattle.sym_map.specs.declared.range.Range.{Range as RangeValue};
 
-use crate::range::{Range, Seen};
+use crate::range::{Cover, Range};
 use byte_text::OutOfMemory;
 use std::alloc::Global;
 
@@ -15,23 +15,23 @@ use std::alloc::Global;
 #[derive(Clone, Copy)]
 struct Passed {
     next: usize,
-    seen: Seen,
+    cover: Cover,
 }
 
 impl Passed {
     const NONE: Passed = Passed {
         next: 0,
-        seen: Seen::Nothing,
+        cover: Cover::Nothing,
     };
 
     /// Passes the next range where it begins here.
     fn pass(self, ranges: &[Range], start: u32) -> Passed
         requires rise { Rise ranges.now }
-        requires passed { IsPassed ranges.now self.next self.seen start }
-        ensures passed { IsPassed ranges.now result.next result.seen (start + 1) }
-        ensures here { (address : ℕ) → start ≤ address → seen_at (take result.next ranges.now) address ≡ result.seen }
+        requires passed { IsPassed ranges.now self.next self.cover start }
+        ensures passed { IsPassed ranges.now result.next result.cover (start + 1) }
+        ensures here { (address : ℕ) → start ≤ address → cover_at (take result.next ranges.now) address ≡ result.cover }
         ensures before { (address : ℕ) → address < start
-            → seen_at (take result.next ranges.now) address ≡ seen_at (take self.next ranges.now) address }
+            → cover_at (take result.next ranges.now) address ≡ cover_at (take self.next ranges.now) address }
         ensures further { self.next ≤ result.next }
         ensures begins { (d : RangeValue) → self.next < length ranges.now
             → (slice_index_or ranges.now self.next d).start ≡ start → self.next < result.next }
@@ -39,7 +39,7 @@ impl Passed {
         match ranges.get(self.next) {
             Some(range) if range.start == start => Passed {
                 next: self.next + 1,
-                seen: range.seen,
+                cover: range.cover,
             },
             _ => self,
         }
@@ -76,7 +76,7 @@ pub(crate) fn merge(
         bottom = bottom.pass(below, start);
         merged.push(Range {
             start,
-            seen: top.seen.over(bottom.seen),
+            cover: top.cover.or_below(bottom.cover),
         })?;
     }
     Ok(merged)

@@ -2,11 +2,11 @@
 
 ghost use Rattle.std.specs.Prelude.{◌≡◌, ◌<◌, ◌≤◌, ◌^◌, ◌∷◌, ℕ, List, true, IfOk, IfSome, OnOk, max};
 ghost use Rattle.std.specs.Prelude.{if◌then◌else◌, nat_lt, []};
-ghost use Rattle.sym_map.specs.inner.Spans.{over, seen, told, IsCutOf};
-ghost use Rattle.sym_map.specs.inner.Piles.{shown, takes, IsPileOf, IsSettled};
+ghost use Rattle.sym_map.specs.inner.Spans.{or_below, cover, label_cover, IsCutOf};
+ghost use Rattle.sym_map.specs.inner.Piles.{stack_cover, takes, IsPileOf, IsSettled};
 ghost use Rattle.sym_map.specs.declared.range.Span.{Span as SpanValue};
 
-use crate::range::{Range, Seen, Span};
+use crate::range::{Cover, Range, Span};
 use byte_text::OutOfMemory;
 use event_costs::ADDRESSES;
 use std::alloc::Global;
@@ -21,10 +21,10 @@ struct Settled {
 impl Settled {
     /// Adds what is seen from the end on up to another one, if that is higher. Nothing is kept in front of the first
     /// that is seen.
-    fn extend(&mut self, here: Seen, end: u64) -> Result<(), OutOfMemory>
+    fn extend(&mut self, here: Cover, end: u64) -> Result<(), OutOfMemory>
         requires { end ≤ 2 ^ 32 }
         ensures settled { (spans : List SpanValue) → IsSettled spans self.old.ranges.items self.old.end
-            → ((address : ℕ) → self.old.end ≤ address → address < end → seen spans address ≡ here)
+            → ((address : ℕ) → self.old.end ≤ address → address < end → cover spans address ≡ here)
             → OnOk result (IsSettled spans self.new.ranges.items self.new.end) }
         ensures end { OnOk result (self.new.end ≡ max self.old.end end) }
     {
@@ -36,15 +36,15 @@ impl Settled {
         if here.is_nothing() && self.ranges.is_empty() {
             return Ok(());
         }
-        self.ranges.push(Range { start, seen: here })?;
+        self.ranges.push(Range { start, cover: here })?;
         Ok(())
     }
 }
 
 /// Lays a span over others that begin no higher. The topmost of them isn't kept where nothing is seen of it.
-fn push_over(stack: &mut Vec<Span>, span: Span) -> Result<(), OutOfMemory>
-    ensures { (address : ℕ) → OnOk result (shown stack.new.items address
-        ≡ if nat_lt address span.end then told span.said else shown stack.old.items address) }
+fn push_on_top(stack: &mut Vec<Span>, span: Span) -> Result<(), OutOfMemory>
+    ensures { (address : ℕ) → OnOk result (stack_cover stack.new.items address
+        ≡ if nat_lt address span.end then label_cover span.label else stack_cover stack.old.items address) }
 {
     match stack.pop() {
         Some(top) if top.end > span.end => {
@@ -102,13 +102,13 @@ impl Pile {
     {
         'stack: while let Some(top) = self.stack.pop() {
             if top.end >= end {
-                self.settled.extend(top.said.seen(), end)?;
+                self.settled.extend(top.label.cover(), end)?;
                 self.stack.push(top)?;
                 return Ok(());
             }
-            self.settled.extend(top.said.seen(), top.end)?;
+            self.settled.extend(top.label.cover(), top.end)?;
         }
-        self.settled.extend(Seen::Nothing, end)?;
+        self.settled.extend(Cover::Nothing, end)?;
         Ok(())
     }
 
@@ -126,7 +126,7 @@ impl Pile {
             return Ok(());
         }
         self.settle(u64::from(span.start))?;
-        push_over(&mut self.stack, *span)?;
+        push_on_top(&mut self.stack, *span)?;
         Ok(())
     }
 
@@ -143,8 +143,8 @@ impl Pile {
 
 /// The ranges of spans, where each begins no lower than the next one; otherwise nothing. It takes one step for each
 /// span and each range.
-pub(crate) fn piled(alloc: Global, spans: &[Span]) -> Result<Option<Vec<Range>>, OutOfMemory>
-    ensures { IfOk result (λ piled. IfSome piled (λ ranges. IsCutOf spans.now ranges.items)) }
+pub(crate) fn pile_up(alloc: Global, spans: &[Span]) -> Result<Option<Vec<Range>>, OutOfMemory>
+    ensures { IfOk result (λ made. IfSome made (λ ranges. IsCutOf spans.now ranges.items)) }
 {
     let mut pile = Pile::new(alloc);
     'spans: for i in (0..spans.len()).rev() {

@@ -5,15 +5,15 @@ ghost use Rattle.event_costs.specs.Keys.{Place as PlaceValue};
 ghost use Rattle.sym_map.specs.Ranges.{AddressRanges, here_at};
 ghost use Rattle.sym_map.specs.inner.Rising.{AllRise};
 ghost use Rattle.sym_map.specs.SymbolMap.{place_in};
-ghost use Rattle.sym_map.specs.AddressMap.{told_by_address};
+ghost use Rattle.sym_map.specs.AddressMap.{lines_by_address};
 ghost use Rattle.sym_map.specs.inner.Indexed.{AreAlike, AreIndexed, IsSpot};
 
 use crate::known_ranges::{Near, Ranges};
 use crate::range::Range;
 use crate::symbol_map::place_in;
+use byte_text::OutOfMemory;
 use elf_read::Elf;
 use elf_read::standard::PF_X;
-use byte_text::OutOfMemory;
 use event_costs::{FileId, INSTRUCTION_BYTES, Place};
 use std::alloc::Global;
 
@@ -34,7 +34,7 @@ pub(crate) struct Spot {
 
 impl Spot {
     /// The same spot once more.
-    fn copied(&self) -> Spot
+    fn copy(&self) -> Spot
         ensures { result ≡ self.now }
     {
         Spot {
@@ -91,7 +91,7 @@ impl PlaceIndex {
     pub(crate) fn tell_addresses(&mut self)
         ensures { (ranges : AddressRanges) (unknown : PlaceValue)
             → AreIndexed ranges unknown self.old.first self.old.spots.items
-            → AreIndexed (told_by_address ranges) unknown self.new.first self.new.spots.items }
+            → AreIndexed (lines_by_address ranges) unknown self.new.first self.new.spots.items }
     {
         tell_each(&mut self.spots, self.first);
     }
@@ -228,7 +228,7 @@ fn spots_from(
             place_in(unknown, ranges.here_by(near, address)),
             address,
         );
-        spots.push(last.copied())?;
+        spots.push(last.copy())?;
     }
     widen(&mut spots);
     Ok(spots)
@@ -262,12 +262,12 @@ fn widen(spots: &mut [Spot])
         → AreIndexed ranges unknown first spots.old → AreIndexed ranges unknown first spots.new }
 {
     'spots: for i in (1..spots.len()).rev() {
-        spots[i - 1] = widened(spots[i - 1], spots[i]);
+        spots[i - 1] = widen_spot(spots[i - 1], spots[i]);
     }
 }
 
 /// The spot with the next one's stretch, where both are of the same function.
-fn widened(spot: Spot, next: Spot) -> Spot
+fn widen_spot(spot: Spot, next: Spot) -> Spot
     ensures { (ranges : AddressRanges) (unknown : PlaceValue) (address other : ℕ) → IsSpot ranges unknown address spot
         → IsSpot ranges unknown other next → IsSpot ranges unknown address result }
 {
@@ -284,19 +284,19 @@ fn widened(spot: Spot, next: Spot) -> Spot
 /// Has the address of each spot be a line of its own.
 fn tell_each(spots: &mut [Spot], first: u32)
     ensures { (ranges : AddressRanges) (unknown : PlaceValue) → AreIndexed ranges unknown first spots.old
-        → AreIndexed (told_by_address ranges) unknown first spots.new }
+        → AreIndexed (lines_by_address ranges) unknown first spots.new }
 {
     let mut address = first;
     'spots: for i in 0..spots.len() {
-        spots[i] = told(spots[i], address);
+        spots[i] = spot_by_address(spots[i], address);
         address = address.wrapping_add(INSTRUCTION_BYTES);
     }
 }
 
 /// The spot with its address as its line.
-fn told(spot: Spot, address: u32) -> Spot
+fn spot_by_address(spot: Spot, address: u32) -> Spot
     ensures { (ranges : AddressRanges) (unknown : PlaceValue) → IsSpot ranges unknown address spot
-        → IsSpot (told_by_address ranges) unknown address result }
+        → IsSpot (lines_by_address ranges) unknown address result }
 {
     Spot {
         place: Place {

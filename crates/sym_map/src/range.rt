@@ -1,10 +1,10 @@
 //! Ranges of addresses, and what is seen of each.
 
 ghost use Rattle.std.specs.Prelude.{◌≡◌, ◌≤◌, length};
-ghost use Rattle.sym_map.specs.Ranges.{line_of, seen_at, symbol_of};
+ghost use Rattle.sym_map.specs.Ranges.{line_of, cover_at, symbol_of};
 ghost use Rattle.sym_map.specs.inner.Rising.{Rise};
-ghost use Rattle.sym_map.specs.inner.Nearby.{is_held, said_by};
-ghost use Rattle.sym_map.specs.inner.Spans.{is_nothing, over, told};
+ghost use Rattle.sym_map.specs.inner.Nearby.{is_held, cover_by_number};
+ghost use Rattle.sym_map.specs.inner.Spans.{is_nothing, or_below, label_cover};
 
 use event_costs::{FileId, FuncId};
 
@@ -32,14 +32,14 @@ pub(crate) struct Here {
 
 /// What one symbol or one line says.
 #[derive(Clone, Copy, Debug, PartialEq, Eq)]
-pub(crate) enum Said {
+pub(crate) enum Label {
     Symbol(SymbolHere),
     Line(LineHere),
 }
 
 /// What is seen of symbols, or of lines. Nothing beside the two takes no more room than they do; an option of them does.
 #[derive(Clone, Copy, Debug, PartialEq, Eq)]
-pub(crate) enum Seen {
+pub(crate) enum Cover {
     Nothing,
     Symbol(SymbolHere),
     Line(LineHere),
@@ -49,7 +49,7 @@ pub(crate) enum Seen {
 #[derive(Clone, Copy, Debug, PartialEq, Eq)]
 pub(crate) struct Range {
     pub(crate) start: u32,
-    pub(crate) seen: Seen,
+    pub(crate) cover: Cover,
 }
 
 /// What one symbol or one line says of the addresses from `start` up to, and without, `end`.
@@ -57,28 +57,28 @@ pub(crate) struct Range {
 pub(crate) struct Span {
     pub(crate) end: u64,
     pub(crate) start: u32,
-    pub(crate) said: Said,
+    pub(crate) label: Label,
 }
 
-impl Said {
+impl Label {
     /// What is seen where nothing else is said.
-    pub(crate) fn seen(self) -> Seen
-        ensures { result ≡ told self }
+    pub(crate) fn cover(self) -> Cover
+        ensures { result ≡ label_cover self }
     {
         match self {
-            Said::Symbol(symbol) => Seen::Symbol(symbol),
-            Said::Line(line) => Seen::Line(line),
+            Label::Symbol(symbol) => Cover::Symbol(symbol),
+            Label::Line(line) => Cover::Line(line),
         }
     }
 }
 
-impl Seen {
+impl Cover {
     /// What is seen where this lies over the other.
-    pub(crate) fn over(self, below: Seen) -> Seen
-        ensures { result ≡ over self below }
+    pub(crate) fn or_below(self, below: Cover) -> Cover
+        ensures { result ≡ or_below self below }
     {
         match self {
-            Seen::Nothing => below,
+            Cover::Nothing => below,
             _ => self,
         }
     }
@@ -86,7 +86,7 @@ impl Seen {
     pub(crate) fn is_nothing(self) -> bool
         ensures { result ≡ is_nothing self }
     {
-        matches!(self, Seen::Nothing)
+        matches!(self, Cover::Nothing)
     }
 
     /// The symbol that is seen.
@@ -94,7 +94,7 @@ impl Seen {
         ensures { result ≡ symbol_of self }
     {
         match self {
-            Seen::Symbol(symbol) => Some(symbol),
+            Cover::Symbol(symbol) => Some(symbol),
             _ => None,
         }
     }
@@ -104,21 +104,21 @@ impl Seen {
         ensures { result ≡ line_of self }
     {
         match self {
-            Seen::Line(line) => Some(line),
+            Cover::Line(line) => Some(line),
             _ => None,
         }
     }
 }
 
 /// What the ranges say of an address: what the last one that begins at or below it says.
-pub(crate) fn seen_at(ranges: &[Range], address: u32) -> Seen
+pub(crate) fn cover_at(ranges: &[Range], address: u32) -> Cover
     requires { Rise ranges.now }
-    ensures { result ≡ seen_at ranges.now address }
+    ensures { result ≡ cover_at ranges.now address }
 {
     let below = ranges.partition_point(|range| range.start <= address);
     match below.checked_sub(1) {
-        Some(last) => ranges[last].seen,
-        None => Seen::Nothing,
+        Some(last) => ranges[last].cover,
+        None => Cover::Nothing,
     }
 }
 
@@ -140,7 +140,7 @@ pub(crate) fn is_held(ranges: &[Range], number: usize, address: u32) -> bool
 #[inline(always)]
 pub(crate) fn number_near(ranges: &[Range], near: usize, address: u32) -> usize
     requires { Rise ranges.now }
-    ensures says { said_by ranges.now result ≡ seen_at ranges.now address }
+    ensures says { cover_by_number ranges.now result ≡ cover_at ranges.now address }
     ensures in_range { result ≤ length ranges.now }
 {
     if is_held(ranges, near, address) {
@@ -155,11 +155,11 @@ pub(crate) fn number_near(ranges: &[Range], near: usize, address: u32) -> usize
 
 /// What the range of this number says; nothing is seen where there is none.
 #[inline(always)]
-pub(crate) fn said_by(ranges: &[Range], number: usize) -> Seen
-    ensures { result ≡ said_by ranges.now number }
+pub(crate) fn cover_by_number(ranges: &[Range], number: usize) -> Cover
+    ensures { result ≡ cover_by_number ranges.now number }
 {
     match ranges.get(number) {
-        Some(range) => range.seen,
-        None => Seen::Nothing,
+        Some(range) => range.cover,
+        None => Cover::Nothing,
     }
 }

@@ -5,13 +5,13 @@ ghost use Rattle.std.specs.List.Sorted.{IsPermutation, IsSortedBy, IsStableBy, I
 ghost use Rattle.std.specs.Ordering.{nat_cmp};
 ghost use Rattle.std.specs.Cmp.Lexicographic.{slice_cmp};
 ghost use Rattle.sym_map.specs.Symbols.{candidates};
-ghost use Rattle.sym_map.specs.inner.Naming.{is_preferred, parted_candidates};
+ghost use Rattle.sym_map.specs.inner.Naming.{is_preferred, candidates_with_names};
 ghost use Rattle.sym_map.specs.inner.Ranking.{by_rank, named_in};
 
 use crate::candidate::{Unranked, compare_symbols, read_candidates};
 use crate::nameless::{Nameless, numbered_by};
-use elf_read::Elf;
 use byte_text::OutOfMemory;
+use elf_read::Elf;
 use name_numbers::{Names, Ranks, rank_names};
 use std::alloc::Global;
 use std::cmp::Ordering;
@@ -35,7 +35,7 @@ fn compare_ranked(x: &Nameless, y: &Nameless) -> Ordering
 
 /// The candidates, in the order of the symbol table.
 fn rank_candidates<'a>(alloc: Global, elf: &Elf<'a>) -> Result<Preferred<'a>, OutOfMemory>
-    ensures all { IfOk result (λ p. map (named_in p.names) p.ranked.items ≡ parted_candidates elf.now) }
+    ensures all { IfOk result (λ p. map (named_in p.names) p.ranked.items ≡ candidates_with_names elf.now) }
     ensures values { IfOk result (λ p. All (λ s. s.value < 2 ^ 32) (candidates elf.now)) }
     ensures rise { IfOk result (λ p. IsStrictlySortedBy (slice_cmp nat_cmp) p.names) }
     ensures each { IfOk result (λ p. All (λ r. r.number < length p.names) p.ranked.items) }
@@ -52,10 +52,10 @@ pub(crate) fn sorted_candidates<'a>(
     alloc: Global,
     elf: &Elf<'a>,
 ) -> Result<Preferred<'a>, OutOfMemory>
-    ensures all { IfOk result (λ p. IsPermutation (parted_candidates elf.now) (map (named_in p.names) p.ranked.items)) }
+    ensures all { IfOk result (λ p. IsPermutation (candidates_with_names elf.now) (map (named_in p.names) p.ranked.items)) }
     ensures sorted { IfOk result (λ p. IsSortedBy is_preferred (map (named_in p.names) p.ranked.items)) }
     ensures stable { IfOk result (λ p.
-        IsStableBy is_preferred (parted_candidates elf.now) (map (named_in p.names) p.ranked.items)) }
+        IsStableBy is_preferred (candidates_with_names elf.now) (map (named_in p.names) p.ranked.items)) }
     ensures values { IfOk result (λ p. All (λ s. s.value < 2 ^ 32) (candidates elf.now)) }
     ensures each { IfOk result (λ p. All (λ r. r.number < length p.names) p.ranked.items) }
     ensures few { IfOk result (λ p. length p.ranked.items < 2 ^ 28) }

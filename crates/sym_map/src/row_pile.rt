@@ -3,18 +3,18 @@
 ghost use Rattle.std.specs.Prelude.{◌≡◌, ◌+◌, ◌<◌, ◌≤◌, ◌^◌, ◌++◌, List, IfOk, IfSome, OnOk, length};
 ghost use Rattle.std.specs.Prelude.{slice_index_or, slice_range};
 ghost use Rattle.dwarf_line.specs.declared.row.Row.{Row as RowValue};
-ghost use Rattle.dwarf_line.specs.LineTable.{IsPlaced, IsRising, row_address, sequence_in};
-ghost use Rattle.sym_map.specs.declared.range.Said.TheVariants as said;
+ghost use Rattle.dwarf_line.specs.Rows.{IsPlaced, IsRising, row_address, sequence_in};
+ghost use Rattle.sym_map.specs.declared.range.Label.TheVariants as label;
 ghost use Rattle.sym_map.specs.declared.range.Span.{Span as SpanValue};
 ghost use Rattle.sym_map.specs.inner.Piles.{IsPileOf};
-ghost use Rattle.sym_map.specs.inner.Rows.{line_here, lined, pile, piles};
+ghost use Rattle.sym_map.specs.inner.Rows.{line_here, line_spans, pile, piles};
 ghost use Rattle.sym_map.specs.inner.Spans.{IsCutOf};
 
 use crate::merge::merge;
 use crate::pile::Pile;
-use crate::range::{LineHere, Range, Said, Span};
-use dwarf_line::{Row, Rows, Sequence};
+use crate::range::{Label, LineHere, Range, Span};
 use byte_text::OutOfMemory;
+use dwarf_line::{Row, Rows, Sequence};
 use event_costs::FileId;
 use std::alloc::Global;
 
@@ -47,7 +47,7 @@ impl<'a> Numbered<'a> {
             → laid.old.settled.end ≤ (slice_index_or self.now.rows.now.rows sequence.first d).addr }
         ensures pile { (spans : List SpanValue)
             → IsPileOf spans laid.old.settled.ranges.items laid.old.settled.end laid.old.stack.items
-            → OnOk result (IsPileOf (lined self.now.ids.now (pile self.now.rows.now.rows sequence) ++ spans)
+            → OnOk result (IsPileOf (line_spans self.now.ids.now (pile self.now.rows.now.rows sequence) ++ spans)
             laid.new.settled.ranges.items laid.new.settled.end laid.new.stack.items) }
         ensures end { laid.old.settled.end ≤ 2 ^ 32 → OnOk result (laid.new.settled.end ≤ 2 ^ 32) }
     {
@@ -56,7 +56,7 @@ impl<'a> Numbered<'a> {
             laid.lay(&Span {
                 start: row.addr,
                 end: u64::from(sequence.end),
-                said: Said::Line(self.line(row)),
+                label: Label::Line(self.line(row)),
             })?;
         }
         Ok(())
@@ -66,7 +66,7 @@ impl<'a> Numbered<'a> {
     fn one(&self, alloc: Global, number: usize) -> Result<Vec<Range>, OutOfMemory>
         requires as_many { length self.now.ids.now ≡ length self.now.rows.now.files }
         requires within { number < length self.now.rows.now.sequences }
-        ensures { IfOk result (λ ranges. IsCutOf (lined self.now.ids.now
+        ensures { IfOk result (λ ranges. IsCutOf (line_spans self.now.ids.now
             (piles self.now.rows.now.rows (slice_range self.now.rows.now.sequences number (number + 1))))
             ranges.items) }
     {
@@ -77,7 +77,7 @@ impl<'a> Numbered<'a> {
 
     /// The ranges of these sequences, where each begins no lower than what is seen of the next ones; otherwise nothing.
     /// It takes one step for each row and each range.
-    fn piled(
+    fn pile_up(
         &self,
         alloc: Global,
         first: usize,
@@ -86,7 +86,7 @@ impl<'a> Numbered<'a> {
         requires as_many { length self.now.ids.now ≡ length self.now.rows.now.files }
         requires order { first ≤ last }
         requires within { last ≤ length self.now.rows.now.sequences }
-        ensures { IfOk result (λ piled. IfSome piled (λ ranges. IsCutOf (lined self.now.ids.now
+        ensures { IfOk result (λ made. IfSome made (λ ranges. IsCutOf (line_spans self.now.ids.now
             (piles self.now.rows.now.rows (slice_range self.now.rows.now.sequences first last)))
             ranges.items)) }
     {
@@ -113,7 +113,7 @@ impl<'a> Numbered<'a> {
         requires as_many { length self.now.ids.now ≡ length self.now.rows.now.files }
         requires order { first ≤ last }
         requires within { last ≤ length self.now.rows.now.sequences }
-        ensures { IfOk result (λ ranges. IsCutOf (lined self.now.ids.now
+        ensures { IfOk result (λ ranges. IsCutOf (line_spans self.now.ids.now
             (piles self.now.rows.now.rows (slice_range self.now.rows.now.sequences first last)))
             ranges.items) }
     {
@@ -121,7 +121,7 @@ impl<'a> Numbered<'a> {
             0 => Ok(Vec::new(alloc)),
             1 => self.one(alloc, first),
             len => {
-                if let Some(ranges) = self.piled(alloc, first, last)? {
+                if let Some(ranges) = self.pile_up(alloc, first, last)? {
                     return Ok(ranges);
                 }
                 let middle = first + len / 2;

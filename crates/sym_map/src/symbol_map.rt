@@ -122,7 +122,7 @@ impl SymMap {
     /// The place of an address, where it is found without a search. It takes no memory.
     #[tactic(auto, unfolding(crate::specs::SymbolMap::place_of))]
     #[inline(always)]
-    pub fn indexed(&self, pc: u32) -> Option<Place>
+    pub fn indexed_place(&self, pc: u32) -> Option<Place>
         ensures { IfSome result (λ place. place ≡ place_of self.now pc) }
     {
         self.index.place(pc)

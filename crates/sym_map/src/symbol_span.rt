@@ -2,25 +2,25 @@
 
 ghost use Rattle.std.specs.Prelude.{◌≡◌, ◌<◌, ◌&&◌, ◌↔◌, ℕ, Some, None, false, nat_le};
 ghost use Rattle.std.specs.Prelude.{nat_lt, IfOk, OnOk, All, Contains, List, length, map};
-ghost use Rattle.sym_map.specs.inner.Functions.{first_shown, shown};
+ghost use Rattle.sym_map.specs.inner.Functions.{first_cover, symbol_cover};
 ghost use Rattle.sym_map.specs.inner.Limits.{Limit, limit_of, Fall, IsNextValue};
-ghost use Rattle.sym_map.specs.inner.Spans.{over, seen, told};
+ghost use Rattle.sym_map.specs.inner.Spans.{or_below, cover, label_cover};
 ghost use Rattle.sym_map.specs.Symbols.{candidates, covers_sized, covers_unsized, section_end, is_sized};
 
 use crate::candidate::{is_sized, section_of};
 use crate::limit::Limits;
 use crate::nameless::Nameless;
-use crate::range::{Said, Span, SymbolHere};
-use elf_read::{Elf, Symbol};
+use crate::range::{Label, Span, SymbolHere};
 use byte_text::OutOfMemory;
+use elf_read::{Elf, Symbol};
 use event_costs::FuncId;
 use std::alloc::Global;
 
 /// What a symbol says whose number is that of its function.
-fn said_of(placed: &Nameless) -> Said
-    ensures { told result ≡ shown (Some placed.now) }
+fn label_of(placed: &Nameless) -> Label
+    ensures { label_cover result ≡ symbol_cover (Some placed.now) }
 {
-    Said::Symbol(SymbolHere {
+    Label::Symbol(SymbolHere {
         func: FuncId(placed.number),
         value: placed.symbol().value,
     })
@@ -55,8 +55,8 @@ fn unsized_end(elf: &Elf<'_>, symbol: &Symbol, next: Option<u32>) -> u64
 /// Appends the symbols with a size.
 fn push_sized(spans: &mut Vec<Span>, placed: &[Nameless]) -> Result<(), OutOfMemory>
     ensures { OnOk result ((address : ℕ)
-        → seen spans.new.items address
-        ≡ over (seen spans.old.items address) (first_shown (covers_sized address) placed.now)) }
+        → cover spans.new.items address
+        ≡ or_below (cover spans.old.items address) (first_cover (covers_sized address) placed.now)) }
 {
     'placed: for one in placed {
         let symbol = one.symbol();
@@ -64,7 +64,7 @@ fn push_sized(spans: &mut Vec<Span>, placed: &[Nameless]) -> Result<(), OutOfMem
             spans.push(Span {
                 start: symbol.value,
                 end: u64::from(symbol.value) + u64::from(symbol.size),
-                said: said_of(one),
+                label: label_of(one),
             })?;
         }
     }
@@ -83,8 +83,8 @@ fn push_unsized(
     requires same { (limit : Limit) → Contains (map (λ p. limit_of p.symbol) placed.now) limit
         ↔ Contains (map limit_of (candidates elf.now)) limit }
     ensures { OnOk result ((address : ℕ)
-        → seen spans.new.items address
-        ≡ over (seen spans.old.items address) (first_shown (covers_unsized elf.now address) placed.now)) }
+        → cover spans.new.items address
+        ≡ or_below (cover spans.old.items address) (first_cover (covers_unsized elf.now address) placed.now)) }
 {
     let mut limits = Limits::new(alloc, elf)?;
     'placed: for one in placed {
@@ -94,7 +94,7 @@ fn push_unsized(
             spans.push(Span {
                 start: symbol.value,
                 end: unsized_end(elf, &symbol, next),
-                said: said_of(one),
+                label: label_of(one),
             })?;
         }
     }
@@ -111,9 +111,9 @@ pub(crate) fn symbol_spans(
     requires in_range { All (λ p. p.symbol.section < length elf.now.sections) placed.now }
     requires same { (limit : Limit) → Contains (map (λ p. limit_of p.symbol) placed.now) limit
         ↔ Contains (map limit_of (candidates elf.now)) limit }
-    ensures { IfOk result (λ spans. (address : ℕ) → seen spans.items address
-        ≡ over (first_shown (covers_sized address) placed.now)
-        (first_shown (covers_unsized elf.now address) placed.now)) }
+    ensures { IfOk result (λ spans. (address : ℕ) → cover spans.items address
+        ≡ or_below (first_cover (covers_sized address) placed.now)
+        (first_cover (covers_unsized elf.now address) placed.now)) }
 {
     let mut spans = Vec::with_capacity(alloc, placed.len())?;
     push_sized(&mut spans, placed)?;

@@ -12,8 +12,8 @@ use crate::nameless::numbered_by;
 use crate::range::Range;
 use crate::ranked::{Preferred, sorted_candidates};
 use crate::symbol_span::symbol_spans;
-use elf_read::Elf;
 use byte_text::OutOfMemory;
+use elf_read::Elf;
 use event_costs::FuncId;
 use std::alloc::Global;
 

@@ -7,10 +7,10 @@ use Rattle.event_costs.specs.Costs.{difference_of_costs, sum_of_costs}
 use Rattle.event_costs.specs.declared.event.Event.{Event}
 use Rattle.event_costs.specs.declared.numbers.ThreadNo.{ThreadNo}
 use Rattle.sym_map.specs.SymbolMap.{SymbolMap}
-use Rattle.shadow_stack.specs.Traces.{Seen}
+use Rattle.shadow_stack.specs.Traces.{EventOnStack}
 use Rattle.arc_costs.proofs.FitLemmas.{fits_from_numbers}
 use Rattle.part_dump.specs.Steps.{Step}
-use Rattle.wait_report.specs.Keeping.{Kept, State, begins, open_of, passed, spot, sum_of, wakes_all}
+use Rattle.wait_report.specs.Keeping.{WaitBooks, WaitState, begins, open_of, after_event, spot, sum_of, wakes_all}
 use Rattle.wait_report.specs.Rows.{cost_at}
 use Rattle.wait_report.specs.Standing.{AreOpen, CanSee, IsCost, MayFollow, StandsFor, step}
 use Rattle.wait_report.specs.declared.books.Open.{Open}
@@ -29,7 +29,7 @@ all_zip [] (y ∷ ys) alike below = absurd (omega (arith, alike))
 all_zip (x ∷ xs) [] alike below = absurd (omega (arith, alike))
 all_zip (x ∷ xs) (y ∷ ys) alike below = (below 0, all_zip xs ys (omega (arith, alike)) (λ kind. below (suc kind)))
 
-module _ (k : Kept) (xs : List Step) (stands : StandsFor k xs) where
+module _ (k : WaitBooks) (xs : List Step) (stands : StandsFor k xs) where
   total_small : (kind : ℕ) → get_or k.total kind 0 ≤ 10 ^ 12
   total_small kind =
       let total = stands.total kind in let ones = stands.ones kind in let few = stands.few in
@@ -93,25 +93,25 @@ module _ (k : Kept) (xs : List Step) (stands : StandsFor k xs) where
       omega (arith, is, waits, few)
 
 -- the threads of a list are woken after the step has passed
-pub passed_stands : (k new : Kept) (waker : ThreadNo) (woken : List ThreadNo) → (has : HasPassed k waker)
-    → new ≡ wakes_all waker woken k → StandsFor new (has.earlier ++ step has.seen None woken ∷ [])
+pub passed_stands : (k new : WaitBooks) (waker : ThreadNo) (woken : List ThreadNo) → (has : HasPassed k waker)
+    → new ≡ wakes_all waker woken k → StandsFor new (has.earlier ++ step has.on_stack None woken ∷ [])
 passed_stands k new waker woken has is =
-    subst (λ q. StandsFor q (has.earlier ++ step has.seen None woken ∷ [])) (sym is)
-    (subst (λ u. StandsFor (wakes_all u woken k) (has.earlier ++ step has.seen None woken ∷ [])) has.is
-    (wakes_each has.earlier has.seen [] woken k has.stands))
+    subst (λ q. StandsFor q (has.earlier ++ step has.on_stack None woken ∷ [])) (sym is)
+    (subst (λ u. StandsFor (wakes_all u woken k) (has.earlier ++ step has.on_stack None woken ∷ [])) has.is
+    (wakes_each has.earlier has.on_stack [] woken k has.stands))
 
 -- and then the step's thread begins to wait
-pub begun_stands : (k mid new : Kept) (waker : ThreadNo) (woken : List ThreadNo) (word : ℕ) → (has : HasPassed k waker)
+pub begun_stands : (k mid new : WaitBooks) (waker : ThreadNo) (woken : List ThreadNo) (word : ℕ) → (has : HasPassed k waker)
     → mid ≡ wakes_all waker woken k → new ≡ begins waker word mid
-    → StandsFor new (has.earlier ++ step has.seen (Some word) woken ∷ [])
+    → StandsFor new (has.earlier ++ step has.on_stack (Some word) woken ∷ [])
 begun_stands k mid new waker woken word has woke is =
-    subst (λ q. StandsFor q (has.earlier ++ step has.seen (Some word) woken ∷ [])) (sym is)
-    (subst (λ u. StandsFor (begins u word mid) (has.earlier ++ step has.seen (Some word) woken ∷ [])) has.is
-    (begins_one has.earlier has.seen woken word mid (passed_stands k mid waker woken has woke)))
+    subst (λ q. StandsFor q (has.earlier ++ step has.on_stack (Some word) woken ∷ [])) (sym is)
+    (subst (λ u. StandsFor (begins u word mid) (has.earlier ++ step has.on_stack (Some word) woken ∷ [])) has.is
+    (begins_one has.earlier has.on_stack woken word mid (passed_stands k mid waker woken has woke)))
 
-module _ (w : State) (event : Event) (cost : List ℕ) (wait : Option ℕ) (woken : List ThreadNo) (syms : SymbolMap)
-    (can : CanSee w event cost wait woken syms) (k : Kept) (is : k ≡ w.kept) where
-  abbrev seen : Seen
+module _ (w : WaitState) (event : Event) (cost : List ℕ) (wait : Option ℕ) (woken : List ThreadNo) (syms : SymbolMap)
+    (can : CanSee w event cost wait woken syms) (k : WaitBooks) (is : k ≡ w.books) where
+  abbrev seen : EventOnStack
   seen = record { event = event; cost = cost; stack = [] }
 
   stands : StandsFor k can.earlier
@@ -132,10 +132,10 @@ module _ (w : State) (event : Event) (cost : List ℕ) (wait : Option ℕ) (woke
       let last = ones_at cost kind (recursion_from_All (λ n. n ≤ 1) cost can.follows.ones) in
       omega (arith, total, last))
 
-  pub has_passed : (new : Kept) → new ≡ passed cost k → HasPassed new event.thread
+  pub has_passed : (new : WaitBooks) → new ≡ after_event cost k → HasPassed new event.thread
   has_passed new one = record {
     earlier = can.earlier;
-    seen = seen;
+    on_stack = seen;
     is = refl;
     stands = subst (λ q. StandsFor q (can.earlier ++ step seen None [] ∷ [])) (sym one)
         (passes k can.earlier seen stands follows);

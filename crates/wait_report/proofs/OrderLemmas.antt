@@ -24,14 +24,14 @@ use Rattle.std.proofs.lemmas.Map.Keys.{IsDistinct-IsPermutation}
 use Rattle.std.proofs.lemmas.Map.Keys.{apart_from_distinct, sorted_from_all_adjacent}
 use Rattle.event_costs.specs.declared.numbers.ThreadNo.{ThreadNo}
 use Rattle.part_dump.specs.Steps.{Step}
-use Rattle.wait_report.specs.Keeping.{Kept, same_thread, same_wake}
+use Rattle.wait_report.specs.Keeping.{WaitBooks, same_thread, same_wake}
 use Rattle.wait_report.specs.Rows.{enders_at, is_at, same_spot, spot_of, spot_order, spots_of, thread_no}
 use Rattle.wait_report.specs.Rows.{thread_order, waker_at, wakers_at}
 use Rattle.wait_report.specs.Standing.{StandsFor}
 use Rattle.wait_report.specs.Waits.{Wait, is_ended_by, waits_in}
 use Rattle.wait_report.specs.declared.books.Spot.{Spot}
 use Rattle.wait_report.specs.declared.books.Wake.{Wake}
-use Rattle.wait_report.specs.inner.Room.{AreInOrder, is_of, wake_order, waker_in, wakers_of}
+use Rattle.wait_report.specs.inner.Room.{AreInOrder, is_wake_of, wake_order, waker_in, wakers_of}
 use Rattle.wait_report.specs.inner.Lookups.{Tells, spot_tells, thread_tells, true_false, turned, wake_tells}
 use Rattle.arc_costs.specs.Keys.{IsIn, risen}
 use Rattle.arc_costs.proofs.RiseLemmas.{in_risen, one_list, risen_in, risen_rises, rises_from}
@@ -171,7 +171,7 @@ any_at s (w ∷ ws) =
         zero_plus : (n : ℕ) → 0 + n ≡ n
         zero_plus n = omega arith
 
-pub spots_are : (k : Kept) (xs : List Step) (spots sorted : List Spot) → StandsFor k xs → spots ≡ keys_of k.sums
+pub spots_are : (k : WaitBooks) (xs : List Step) (spots sorted : List Spot) → StandsFor k xs → spots ≡ keys_of k.sums
     → IsDistinct same_spot (keys_of k.sums) → IsPermutation spots sorted → IsSorted spot_order sorted
     → sorted ≡ spots_of xs
 spots_are k xs spots sorted stands is distinct moved order =
@@ -185,18 +185,18 @@ spots_are k xs spots sorted stands is distinct moved order =
 -- ---- wakers
 
 -- of wakes at one spot in order, the wakers rise
-wakers_rise : (s : Spot) (ws : List Wake) → AllByRecursion (λ w. is_of s w ≡ true) ws
+wakers_rise : (s : Spot) (ws : List Wake) → AllByRecursion (λ w. is_wake_of s w ≡ true) ws
     → IsStrictlySortedBy wake_order ws → IsStrictlySortedBy thread_order (map (λ w. w.waker) ws)
 unfolding IsStrictlySortedBy
 wakers_rise s [] at rise = tt
 wakers_rise s (w ∷ ws) at rise = (below_first ws at.1 rise.0, wakers_rise s ws at.1 rise.1)
   where
-    tied : (v : Wake) → is_of s v ≡ true → spot_order w.spot v.spot ≡ Equal
+    tied : (v : Wake) → is_wake_of s v ≡ true → spot_order w.spot v.spot ≡ Equal
     tied v here =
         ap (λ q. spot_order q v.spot) (spot_tells.alike w.spot s at.0)
         ∙ ap (spot_order s) (spot_tells.alike v.spot s here) ∙ tied_itself spot_total s
 
-    below_first : (vs : List Wake) → AllByRecursion (λ v. is_of s v ≡ true) vs
+    below_first : (vs : List Wake) → AllByRecursion (λ v. is_wake_of s v ≡ true) vs
         → AllByRecursion (λ v. wake_order w v ≡ Less) vs
         → AllByRecursion (λ t. thread_order w.waker t ≡ Less) (map (λ v. v.waker) vs)
     below_first [] at_ less = tt
@@ -211,10 +211,10 @@ wake_at s u = record { spot = s; waker = u }
 any_wake : (s : Spot) (u : ThreadNo) (ws : List Wake)
     → list_any (same_thread u) (wakers_of s ws) ≡ list_any (same_wake (wake_at s u)) ws
 any_wake s u [] = refl
-any_wake s u (w ∷ ws) = by (is_of s w) refl (any_wake s u ws)
+any_wake s u (w ∷ ws) = by (is_wake_of s w) refl (any_wake s u ws)
   where
-    by : (b : Bool) → is_of s w ≡ b → list_any (same_thread u) (wakers_of s ws) ≡ list_any (same_wake (wake_at s u)) ws
-        → list_any (same_thread u) (map (λ v. v.waker) (if b then w ∷ filter (is_of s) ws else filter (is_of s) ws))
+    by : (b : Bool) → is_wake_of s w ≡ b → list_any (same_thread u) (wakers_of s ws) ≡ list_any (same_wake (wake_at s u)) ws
+        → list_any (same_thread u) (map (λ v. v.waker) (if b then w ∷ filter (is_wake_of s) ws else filter (is_wake_of s) ws))
         ≡ ((same_spot s w.spot && same_thread u w.waker) || list_any (same_wake (wake_at s u)) ws)
     by true e rest =
         (λ i. same_thread u w.waker || rest i)
@@ -270,24 +270,24 @@ any_ender s u (w ∷ ws) =
         (sym (flat_map-cons (λ v. map thread_no (option_to_list v.waker)) (record w { waker = Some t })
         (filter (is_at s) ws)))
 
-enders_are : (k : Kept) (xs : List Step) (s : Spot) (ws : List Wake) → StandsFor k xs → AreInOrder k ws
+enders_are : (k : WaitBooks) (xs : List Step) (s : Spot) (ws : List Wake) → StandsFor k xs → AreInOrder k ws
     → wakers_of s ws ≡ enders_at s xs
 enders_are k xs s ws stands are =
     ordered same_thread thread_tells thread_order thread_total thread_only (wakers_of s ws)
     (flat_map (λ w. map thread_no (option_to_list w.waker)) (filter (is_at s) (waits_in xs)))
-    (wakers_rise s (filter (is_of s) ws)
-    (recursion_from_All (λ w. is_of s w ≡ true) (filter (is_of s) ws) (filter_passes (is_of s) ws))
-    (IsStrictlySortedBy-filter wake_order (is_of s) ws
+    (wakers_rise s (filter (is_wake_of s) ws)
+    (recursion_from_All (λ w. is_wake_of s w ≡ true) (filter (is_wake_of s) ws) (filter_passes (is_wake_of s) ws))
+    (IsStrictlySortedBy-filter wake_order (is_wake_of s) ws
     (strictly wake_total same_wake wake_ties ws are.order
     (IsDistinct-IsPermutation same_wake (turned same_wake wake_tells) (keys_of k.wakes) ws are.same are.apart))))
     (λ u. any_wake s u ws ∙ sym (list_any-IsPermutation (same_wake (wake_at s u)) (keys_of k.wakes) ws are.same)
     ∙ sym (lookup_any same_wake (wake_at s u) k.wakes)
     ∙ stands.known_wakes (wake_at s u) ∙ any_ender s u (waits_in xs))
 
-pub wakers_are : (k : Kept) (xs : List Step) (s : Spot) (ws : List Wake) → StandsFor k xs → AreInOrder k ws
-    → map (λ w. waker_in s k w.waker) (filter (is_of s) ws) ≡ wakers_at s xs
+pub wakers_are : (k : WaitBooks) (xs : List Step) (s : Spot) (ws : List Wake) → StandsFor k xs → AreInOrder k ws
+    → map (λ w. waker_in s k w.waker) (filter (is_wake_of s) ws) ≡ wakers_at s xs
 wakers_are k xs s ws stands are =
-    times_are (filter (is_of s) ws) ∙ ap (map (waker_at s xs)) (enders_are k xs s ws stands are)
+    times_are (filter (is_wake_of s) ws) ∙ ap (map (waker_at s xs)) (enders_are k xs s ws stands are)
   where
     times_are : (vs : List Wake) → map (λ v. waker_in s k v.waker) vs ≡ map (waker_at s xs) (map (λ v. v.waker) vs)
     times_are [] = refl
@@ -384,12 +384,12 @@ module _ (ws : List Wake) (s : Spot) (order : IsSorted wake_order ws) where
           (ends.above end nowhere (omega arith) (omega (arith, lt, ends.start_within)))
 
   pub between_ends : (start end : ℕ) → AreEnds start end
-      → take (end - start) (drop start ws) ≡ filter (is_of s) ws
+      → take (end - start) (drop start ws) ≡ filter (is_wake_of s) ws
   between_ends start end ends =
       let first = start_first start end ends in
       let whole : start + (end - start) ≡ end = omega (arith, first) in
       let within = ends.end_within in
-      taken_is (is_of s) ws start (end - start) (omega (arith, whole, within))
+      taken_is (is_wake_of s) ws start (end - start) (omega (arith, whole, within))
       (λ k d low high. of_order (get_or ws k d) ∙ not_less (to_spot (get_or ws k d)) (ends.lower k d low high))
       (λ k d low high. of_order (get_or ws k d)
       ∙ tie (to_spot (get_or ws k d)) (ends.from k d low (omega (arith, high, whole, within)))
@@ -397,7 +397,7 @@ module _ (ws : List Wake) (s : Spot) (order : IsSorted wake_order ws) where
       (λ k d low high. of_order (get_or ws k d)
       ∙ not_greater (to_spot (get_or ws k d)) (ends.above k d (omega (arith, low, whole)) high))
     where
-      of_order : (w : Wake) → is_of s w ≡ is_eq (to_spot w)
+      of_order : (w : Wake) → is_wake_of s w ≡ is_eq (to_spot w)
       of_order w = spot_ties w.spot s
 
       not_less : (o : Ordering) → is_lt o ≡ true → is_eq o ≡ false

@@ -7,12 +7,12 @@ use Rattle.std.proofs.lemmas.Bool.Decides.{nat_tests}
 use Rattle.std.proofs.lemmas.List.Sums.{sum_by-cons}
 use Rattle.indexmap.specs.IndexMap.{insert_entry}
 use Rattle.event_costs.specs.declared.numbers.ThreadNo.{ThreadNo}
-use Rattle.wait_report.specs.Keeping.{IsRoomy, Kept, State, flat, is_quiet, open_count, passed, same_thread, steps}
+use Rattle.wait_report.specs.Keeping.{IsRoomy, WaitBooks, WaitState, flat, is_quiet, open_count, after_event, same_thread, steps}
 use Rattle.wait_report.specs.declared.books.Books.{Books}
 use Rattle.wait_report.specs.declared.books.Open.{Open}
 use Rattle.wait_report.specs.inner.Counts.{one}
 use Rattle.wait_report.specs.inner.Lookups.{true_false}
-use Rattle.wait_report.specs.inner.Room.{HasRoom, HasRoomForStep, kept_of}
+use Rattle.wait_report.specs.inner.Room.{HasRoom, HasRoomForStep, books_of}
 
 -- one open wait fewer, once the thread's is ended
 pub open_count_ended : (es : List (ThreadNo × Option Open)) (t : ThreadNo) (o : Open)
@@ -43,8 +43,8 @@ open_count_ended (e ∷ es) t o is = by (same_thread t e.0) refl is (λ rest. op
         omega (arith, more, before, after)
 
 -- the room of a watch is that of its books
-pub step_room : (w : State) (b : Books) (total : List ℕ) (room : ℕ)
-    → ◌≡◌ {A = State} (record { kept = kept_of b; room = room }) w → HasRoom room b → IsRoomy w
+pub step_room : (w : WaitState) (b : Books) (total : List ℕ) (room : ℕ)
+    → ◌≡◌ {A = WaitState} (record { books = books_of b; room = room }) w → HasRoom room b → IsRoomy w
     → HasRoomForStep (record b { total = total })
 step_room w b total room is has wanted =
     let enough : open_count b.waiting.entries < room = subst IsRoomy (sym is) wanted in
@@ -61,34 +61,34 @@ pub same_room : (room : ℕ) (b : Books) (total : List ℕ) → HasRoom room b �
 same_room room b total has = record { waiting = has.waiting; sums = has.sums; wakes = has.wakes }
 
 -- no wait begins or ends in a quiet step
-pub quiet_steps : (thread : ThreadNo) (cost : List ℕ) (wait : Option ℕ) (woken : List ThreadNo) (k : Kept)
-    → is_quiet wait woken ≡ true → steps thread cost wait woken k ≡ passed cost k
+pub quiet_steps : (thread : ThreadNo) (cost : List ℕ) (wait : Option ℕ) (woken : List ThreadNo) (k : WaitBooks)
+    → is_quiet wait woken ≡ true → steps thread cost wait woken k ≡ after_event cost k
 quiet_steps thread cost None [] k quiet = refl
 quiet_steps thread cost None (t ∷ woken) k quiet =
     let some : (length (t ∷ woken) == 0) ≡ false = grind (arith, nat_tests) in absurd (true_false (sym quiet ∙ some))
 quiet_steps thread cost (Some word) woken k quiet = absurd (true_false (sym quiet))
 
 -- what a step makes of a watch
-module _ (w : State) (k new : Kept) (room : ℕ) (thread : ThreadNo) (cost : List ℕ) (wait : Option ℕ)
-    (woken : List ThreadNo) (is : ◌≡◌ {A = State} (record { kept = k; room = room }) w) where
-  pub seen_quiet : new ≡ passed cost k → is_quiet wait woken ≡ true
-      → ◌≡◌ {A = State} (record { kept = new; room = room }) (record {
-        kept = steps thread cost wait woken w.kept;
+module _ (w : WaitState) (k new : WaitBooks) (room : ℕ) (thread : ThreadNo) (cost : List ℕ) (wait : Option ℕ)
+    (woken : List ThreadNo) (is : ◌≡◌ {A = WaitState} (record { books = k; room = room }) w) where
+  pub seen_quiet : new ≡ after_event cost k → is_quiet wait woken ≡ true
+      → ◌≡◌ {A = WaitState} (record { books = new; room = room }) (record {
+        books = steps thread cost wait woken w.books;
         room = if is_quiet wait woken then w.room else 0;
       })
   seen_quiet new_is quiet = λ i. record {
-    kept = (new_is ∙ sym (quiet_steps thread cost wait woken k quiet)
-        ∙ ap (λ (v : State). steps thread cost wait woken v.kept) is) i;
-    room = (ap (λ (v : State). v.room) is ∙ ap (λ (b : Bool). if b then w.room else 0) (sym quiet)) i;
+    books = (new_is ∙ sym (quiet_steps thread cost wait woken k quiet)
+        ∙ ap (λ (v : WaitState). steps thread cost wait woken v.books) is) i;
+    room = (ap (λ (v : WaitState). v.room) is ∙ ap (λ (b : Bool). if b then w.room else 0) (sym quiet)) i;
   }
 
   pub seen_loud : new ≡ steps thread cost wait woken k → is_quiet wait woken ≡ false
-      → ◌≡◌ {A = State} (record { kept = new; room = 0 }) (record {
-        kept = steps thread cost wait woken w.kept;
+      → ◌≡◌ {A = WaitState} (record { books = new; room = 0 }) (record {
+        books = steps thread cost wait woken w.books;
         room = if is_quiet wait woken then w.room else 0;
       })
   seen_loud new_is loud = λ i. record {
-    kept = (new_is ∙ ap (λ (v : State). steps thread cost wait woken v.kept) is) i;
+    books = (new_is ∙ ap (λ (v : WaitState). steps thread cost wait woken v.books) is) i;
     room = ap (λ (b : Bool). if b then w.room else 0) (sym loud) i;
   }
 

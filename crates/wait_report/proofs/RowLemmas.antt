@@ -8,7 +8,7 @@ use Rattle.arc_costs.proofs.KindLemmas.{cost_is}
 use Rattle.part_dump.specs.Steps.{Step}
 use Rattle.wait_report.specs.declared.rows.WaitRow.{WaitRow}
 use Rattle.wait_report.specs.declared.rows.Waker.{Waker}
-use Rattle.wait_report.specs.Keeping.{Kept, open_of, sum_of}
+use Rattle.wait_report.specs.Keeping.{WaitBooks, open_of, sum_of}
 use Rattle.wait_report.specs.Rows.{cost_at, open_at, row_at, waits_at, wakers_at}
 use Rattle.wait_report.specs.Standing.{AreOpen, IsCost, StandsFor}
 use Rattle.wait_report.specs.declared.books.Open.{Open}
@@ -17,7 +17,7 @@ use Rattle.wait_report.specs.inner.Room.{only_at}
 use Rattle.wait_report.specs.inner.Passing.{number_of_sum, whole_sum}
 use Rattle.wait_report.specs.inner.Waking.{choose, leave, number_of_difference, whole_difference}
 
-module _ (k : Kept) (xs : List Step) (s : Spot) (stands : StandsFor k xs) where
+module _ (k : WaitBooks) (xs : List Step) (s : Spot) (stands : StandsFor k xs) where
   none_open : (o : Option Open) → open_of s.thread k ≡ o → AreOpen xs s.thread o
   none_open o is = subst (AreOpen xs s.thread) is (stands.waiting s.thread)
 

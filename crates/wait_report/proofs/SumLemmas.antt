@@ -17,7 +17,7 @@ use Rattle.wait_report.specs.Keeping.{nothing}
 use Rattle.wait_report.specs.Rows.{cost_at, is_at, row_at, same_spot, spot_of, spot_order, spots_of}
 use Rattle.wait_report.specs.Rows.{wait_rows}
 use Rattle.wait_report.specs.Standing.{HaveSums, MayAllFollow}
-use Rattle.wait_report.specs.Waits.{Wait, begun, cost_of, span, wait_of, waits_in}
+use Rattle.wait_report.specs.Waits.{Wait, begun_wait, cost_of, span, wait_of, waits_in}
 use Rattle.wait_report.specs.declared.books.Spot.{Spot}
 use Rattle.wait_report.specs.declared.rows.WaitRow.{WaitRow}
 use Rattle.wait_report.specs.inner.Counts.{sum_none, sum_plus}
@@ -35,8 +35,8 @@ if_so b n = if b then n else 0
 -- ---- the waits of one thread follow each other
 
 cost_cons : (kind : ℕ) (x : Step) (xs : List Step)
-    → cost_of kind (x ∷ xs) ≡ get_or x.seen.cost kind 0 + cost_of kind xs
-cost_cons kind x xs = sum_by-cons (λ (y : Step). get_or y.seen.cost kind 0) x xs
+    → cost_of kind (x ∷ xs) ≡ get_or x.on_stack.cost kind 0 + cost_of kind xs
+cost_cons kind x xs = sum_by-cons (λ (y : Step). get_or y.on_stack.cost kind 0) x xs
 
 module _ (kind t : ℕ) where
   abbrev own_cost : Wait → ℕ
@@ -52,7 +52,7 @@ module _ (kind t : ℕ) where
     pub behind : IsOfOthers t (span t xs) → cost_of kind (span t xs) + own_costs xs ≤ cost_of kind xs
 
   other_begins : (word : Option ℕ) (x : Step) (xs : List Step) → (thread_of x == t) ≡ false
-      → sum_by own_cost (begun word (thread_of x) xs ++ waits_in xs) ≡ own_costs xs
+      → sum_by own_cost (begun_wait word (thread_of x) xs ++ waits_in xs) ≡ own_costs xs
   other_begins None x xs other = refl
   other_begins (Some word) x xs other =
       sum_by-cons own_cost (wait_of (thread_of x) xs word) (waits_in xs)
@@ -63,8 +63,8 @@ module _ (kind t : ℕ) where
       zero_plus n = omega arith
 
   begins_few : (word : Option ℕ) (x : Step) (xs : List Step)
-      → AreQuiet (begun word (thread_of x) xs ++ waits_in xs) → IsFew xs
-      → sum_by own_cost (begun word (thread_of x) xs ++ waits_in xs) ≤ cost_of kind xs
+      → AreQuiet (begun_wait word (thread_of x) xs ++ waits_in xs) → IsFew xs
+      → sum_by own_cost (begun_wait word (thread_of x) xs ++ waits_in xs) ≤ cost_of kind xs
   begins_few None x xs quiet few = few.all
   begins_few (Some word) x xs quiet few = by (thread_of x == t) refl
     where
@@ -93,7 +93,7 @@ module _ (kind t : ℕ) where
   pub few_waits : (xs : List Step) → AreQuiet (waits_in xs) → IsFew xs
   few_waits [] quiet = record { all = omega arith; behind = λ others. omega arith }
   few_waits (x ∷ xs) quiet =
-      let few = few_waits xs (waits_behind (begun x.wait (thread_of x) xs) (waits_in xs) quiet) in
+      let few = few_waits xs (waits_behind (begun_wait x.wait (thread_of x) xs) (waits_in xs) quiet) in
       let more = cost_cons kind x xs in
       let own = begins_few x.wait x xs quiet few in
       record {
@@ -250,7 +250,7 @@ rows_most kind xs (s ∷ ss) =
 
 -- the threads of waits are those of steps
 small_begun : (n : ℕ) (word : Option ℕ) (thread : ℕ) (later : List Step) (ws : List Wait) → thread < n
-    → AllByRecursion (λ w. w.thread < n) ws → AllByRecursion (λ w. w.thread < n) (begun word thread later ++ ws)
+    → AllByRecursion (λ w. w.thread < n) ws → AllByRecursion (λ w. w.thread < n) (begun_wait word thread later ++ ws)
 small_begun n None thread later ws less small = small
 small_begun n (Some word) thread later ws less small = (less, small)
 

@@ -15,15 +15,15 @@ use Rattle.wait_report.specs.declared.books.Wake.{Wake}
 
 -- The cost of all events; of each thread that has waited, its open wait; of each spot, the waits that began and the
 -- cost of those that were ended; and how often a thread has ended a wait at a spot.
-pub record Kept : Type 0 where
+pub record WaitBooks : Type 0 where
   pub total : List ℕ
   pub waiting : List (ThreadNo × Option Open)
   pub sums : List (Spot × Sum)
   pub wakes : List (Wake × ℕ)
 
 -- what is kept, and how many rows more each of its three lists takes without memory
-pub record State : Type 0 where
-  pub kept : Kept
+pub record WaitState : Type 0 where
+  pub books : WaitBooks
   pub room : ℕ
 
 abbrev pub same_thread : ThreadNo → ThreadNo → Bool
@@ -33,7 +33,7 @@ abbrev pub same_wake : Wake → Wake → Bool
 same_wake a b = same_spot a.spot b.spot && a.waker.0 == b.waker.0
 
 -- nothing has happened
-abbrev pub nothing : Kept
+abbrev pub nothing : WaitBooks
 nothing = record { total = no_cost; waiting = []; sums = []; wakes = [] }
 
 -- ---- what is kept of a thread, and of a spot
@@ -42,20 +42,20 @@ abbrev pub flat : Option (Option Open) → Option Open
 flat None = None
 flat (Some o) = o
 
-abbrev pub open_of : ThreadNo → Kept → Option Open
+abbrev pub open_of : ThreadNo → WaitBooks → Option Open
 open_of thread k = flat (lookup (same_thread thread) k.waiting)
 
-abbrev pub sum_of : Spot → Kept → Sum
+abbrev pub sum_of : Spot → WaitBooks → Sum
 sum_of spot k = unwrap_or (lookup (same_spot spot) k.sums) (record { waits = 0; cost = no_cost })
 
-abbrev pub times_of : Wake → Kept → ℕ
+abbrev pub times_of : Wake → WaitBooks → ℕ
 times_of wake k = unwrap_or (lookup (same_wake wake) k.wakes) 0
 
 -- ---- a step
 
 -- an event passes
-abbrev pub passed : List ℕ → Kept → Kept
-passed cost k = record k { total = sum_of_costs k.total cost }
+abbrev pub after_event : List ℕ → WaitBooks → WaitBooks
+after_event cost k = record k { total = sum_of_costs k.total cost }
 
 abbrev pub spot : ThreadNo → ℕ → Spot
 spot thread word = record { thread = thread; word = word }
@@ -67,7 +67,7 @@ abbrev pub ended_sum : Sum → List ℕ → Sum
 ended_sum s cost = record { waits = s.waits; cost = sum_of_costs s.cost cost }
 
 -- a thread begins to wait at a word
-abbrev pub begins : ThreadNo → ℕ → Kept → Kept
+abbrev pub begins : ThreadNo → ℕ → WaitBooks → WaitBooks
 begins thread word k = record {
   total = k.total;
   waiting = insert_entry same_thread k.waiting thread (Some (record { word = word; start = k.total }));
@@ -76,7 +76,7 @@ begins thread word k = record {
 }
 
 -- the open wait of a thread is ended by another
-abbrev pub ends : ThreadNo → ThreadNo → Open → Kept → Kept
+abbrev pub ends : ThreadNo → ThreadNo → Open → WaitBooks → WaitBooks
 ends waker thread o k = record {
   total = k.total;
   waiting = insert_entry same_thread k.waiting thread None;
@@ -86,24 +86,24 @@ ends waker thread o k = record {
       (times_of (record { spot = spot thread o.word; waker = waker }) k + 1);
 }
 
-abbrev pub ends_open : ThreadNo → ThreadNo → Option Open → Kept → Kept
+abbrev pub ends_open : ThreadNo → ThreadNo → Option Open → WaitBooks → WaitBooks
 ends_open waker thread None k = k
 ends_open waker thread (Some o) k = ends waker thread o k
 
 -- a thread is woken by another; where it has no open wait, nothing is ended
-abbrev pub wakes : ThreadNo → Kept → ThreadNo → Kept
+abbrev pub wakes : ThreadNo → WaitBooks → ThreadNo → WaitBooks
 wakes waker k thread = ends_open waker thread (open_of thread k) k
 
-abbrev pub wakes_all : ThreadNo → List ThreadNo → Kept → Kept
+abbrev pub wakes_all : ThreadNo → List ThreadNo → WaitBooks → WaitBooks
 wakes_all waker woken k = fold (wakes waker) k woken
 
-abbrev pub begins_any : ThreadNo → Option ℕ → Kept → Kept
+abbrev pub begins_any : ThreadNo → Option ℕ → WaitBooks → WaitBooks
 begins_any thread None k = k
 begins_any thread (Some word) k = begins thread word k
 
 -- a step of a thread, which ends the waits of those that it wakes, and in which the thread may begin to wait
-abbrev pub steps : ThreadNo → List ℕ → Option ℕ → List ThreadNo → Kept → Kept
-steps thread cost wait woken k = begins_any thread wait (wakes_all thread woken (passed cost k))
+abbrev pub steps : ThreadNo → List ℕ → Option ℕ → List ThreadNo → WaitBooks → WaitBooks
+steps thread cost wait woken k = begins_any thread wait (wakes_all thread woken (after_event cost k))
 
 -- ---- room
 
@@ -112,22 +112,22 @@ abbrev pub open_count : List (ThreadNo × Option Open) → ℕ
 open_count es = count_by (λ e. is_some e.1) es
 
 -- for a wait more, and for a wake of each thread that waits
-abbrev pub IsRoomy : State → Type 0
-IsRoomy w = open_count w.kept.waiting < w.room
+abbrev pub IsRoomy : WaitState → Type 0
+IsRoomy w = open_count w.books.waiting < w.room
 
 -- room is made for a wait more, and for a wake of each thread that has waited
-abbrev pub roomy : State → State
-roomy w = record w { room = if nat_le w.room (length w.kept.waiting) then length w.kept.waiting + 1 else w.room }
+abbrev pub roomy : WaitState → WaitState
+roomy w = record w { room = if nat_le w.room (length w.books.waiting) then length w.books.waiting + 1 else w.room }
 
 -- a step in which no wait begins or ends
 abbrev pub is_quiet : Option ℕ → List ThreadNo → Bool
 is_quiet wait woken = not (is_some wait) && (length woken == 0)
 
-abbrev pub watching : Meaning State
+abbrev pub watching : Meaning WaitState
 watching = record {
   after_ready = λ w thread pc syms. roomy w;
   after_seen = λ w event cost wait woken syms. record {
-    kept = steps event.thread cost wait woken w.kept;
+    books = steps event.thread cost wait woken w.books;
     room = if is_quiet wait woken then w.room else 0;
   };
   after_part = λ w head rows syms. w;

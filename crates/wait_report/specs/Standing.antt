@@ -6,10 +6,10 @@ use Rattle.event_costs.specs.Costs.{IsWhole}
 use Rattle.event_costs.specs.declared.event.Event.{Event}
 use Rattle.event_costs.specs.declared.numbers.ThreadNo.{ThreadNo}
 use Rattle.sym_map.specs.SymbolMap.{SymbolMap}
-use Rattle.shadow_stack.specs.Traces.{Seen}
+use Rattle.shadow_stack.specs.Traces.{EventOnStack}
 use Rattle.part_dump.specs.Steps.{Step, thread_of}
 use Rattle.part_dump.specs.Watched.{most_steps, waits}
-use Rattle.wait_report.specs.Keeping.{IsRoomy, Kept, State, open_of, same_wake, spot, sum_of, times_of}
+use Rattle.wait_report.specs.Keeping.{IsRoomy, WaitBooks, WaitState, open_of, same_wake, spot, sum_of, times_of}
 use Rattle.wait_report.specs.Rows.{cost_at, ended_at, open_at, same_spot, wait_rows, waits_at}
 use Rattle.wait_report.specs.Waits.{cost_of}
 use Rattle.wait_report.specs.declared.books.Open.{Open}
@@ -33,7 +33,7 @@ IsCost total word ended cost (Some o) = (kind : ℕ)
     × (cost kind + (if o.word == word then slice_index o.start kind else 0)
     ≡ slice_index ended kind + (if o.word == word then slice_index total kind else 0))
 
-pub record StandsFor (k : Kept) (xs : List Step) : Type 0 where
+pub record StandsFor (k : WaitBooks) (xs : List Step) : Type 0 where
   -- the steps are few, and each counts each kind of event at most once
   pub few : length xs ≤ most_steps
   pub ones : (kind : ℕ) → cost_of kind xs ≤ length xs
@@ -56,8 +56,8 @@ pub record StandsFor (k : Kept) (xs : List Step) : Type 0 where
 
 -- A step that may follow these: its cost counts each kind of event at most once, and its thread doesn't wait.
 pub record MayFollow (earlier : List Step) (x : Step) : Type 0 where
-  pub whole : IsWhole x.seen.cost
-  pub ones : All (λ n. n ≤ 1) x.seen.cost
+  pub whole : IsWhole x.on_stack.cost
+  pub ones : All (λ n. n ≤ 1) x.on_stack.cost
   pub room : length earlier < most_steps
   pub awake : waits (thread_of x) earlier ≡ false
 
@@ -71,17 +71,17 @@ abbrev pub HaveSums : List Step → Type 0
 HaveSums xs = (kind : ℕ) → sum_by (λ row. slice_index row.cost kind) (wait_rows xs) < 2 ^ 64
 
 -- a step of what was seen
-abbrev pub step : Seen → Option ℕ → List ThreadNo → Step
-step seen wait woken = record { seen = seen; wait = wait; woken = woken }
+abbrev pub step : EventOnStack → Option ℕ → List ThreadNo → Step
+step seen wait woken = record { on_stack = seen; wait = wait; woken = woken }
 
 -- a step as it is told; the stack of its thread is left out
-abbrev pub told : Event → List ℕ → Option ℕ → List ThreadNo → Step
-told event cost wait woken = step (record { event = event; cost = cost; stack = [] }) wait woken
+abbrev pub told_step : Event → List ℕ → Option ℕ → List ThreadNo → Step
+told_step event cost wait woken = step (record { event = event; cost = cost; stack = [] }) wait woken
 
 -- A step may be told where there is room, and the state stands for steps that it may follow.
-pub record CanSee (w : State) (event : Event) (cost : List ℕ) (wait : Option ℕ) (woken : List ThreadNo)
+pub record CanSee (w : WaitState) (event : Event) (cost : List ℕ) (wait : Option ℕ) (woken : List ThreadNo)
     (syms : SymbolMap) : Type 0 where
   pub room : IsRoomy w
   pub earlier : List Step
-  pub stands : StandsFor w.kept earlier
-  pub follows : MayFollow earlier (told event cost wait woken)
+  pub stands : StandsFor w.books earlier
+  pub follows : MayFollow earlier (told_step event cost wait woken)

@@ -3,8 +3,8 @@ use Rattle.std.specs.Prelude.{ℕ, Bool, if◌then◌else◌, List, ◌++◌, co
 use Rattle.std.specs.Prelude.{flat_map, fold}
 use Rattle.event_costs.specs.Costs.{event_names, events_shown, no_cost, sum_of_costs}
 use Rattle.byte_text.specs.Hex.{hex}
-use Rattle.byte_text.specs.Names.{cleaned}
-use Rattle.cg_format.specs.Marks.{cost_text, spaced}
+use Rattle.byte_text.specs.Names.{clean_name}
+use Rattle.cg_format.specs.Marks.{cost_text, words_text}
 use Rattle.wait_report.specs.declared.rows.WaitRow.{WaitRow}
 use Rattle.wait_report.specs.declared.rows.Waker.{Waker}
 
@@ -12,10 +12,10 @@ use Rattle.wait_report.specs.declared.rows.Waker.{Waker}
 
 -- what it is, and the command
 abbrev pub command_text : List ℕ → List ℕ
-command_text cmd = codes "# waits\ncmd: " ++ cleaned cmd
+command_text cmd = codes "# waits\ncmd: " ++ clean_name cmd
 
 abbrev pub events_text : Bool → List ℕ
-events_text branch = codes "\nevents:" ++ spaced (events_shown branch event_names) ++ codes "\n"
+events_text branch = codes "\nevents:" ++ words_text (events_shown branch event_names) ++ codes "\n"
 
 abbrev pub waker_text : Waker → List ℕ
 waker_text waker =

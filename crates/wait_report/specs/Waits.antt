@@ -31,14 +31,14 @@ wait_of thread later word =
     record { thread = thread; word = word; span = span thread later; waker = waker thread later }
 
 -- the wait that began in a step, if one did
-abbrev pub begun : Option ℕ → ℕ → List Step → List Wait
-begun None thread later = []
-begun (Some word) thread later = wait_of thread later word ∷ []
+abbrev pub begun_wait : Option ℕ → ℕ → List Step → List Wait
+begun_wait None thread later = []
+begun_wait (Some word) thread later = wait_of thread later word ∷ []
 
 -- the waits of a trace, in the order in which they began
 abbrev pub waits_in : List Step → List Wait
 waits_in [] = []
-waits_in (x ∷ later) = begun x.wait (thread_of x) later ++ waits_in later
+waits_in (x ∷ later) = begun_wait x.wait (thread_of x) later ++ waits_in later
 
 -- nobody has ended it
 abbrev pub is_open : Wait → Bool
@@ -49,7 +49,7 @@ is_ended_by thread w = option_map_or (λ t. t == thread) w.waker false
 
 -- the cost of a kind of all steps that pass while it lasts
 abbrev pub cost_of : ℕ → List Step → ℕ
-cost_of kind xs = sum_by (λ x. slice_index x.seen.cost kind) xs
+cost_of kind xs = sum_by (λ x. slice_index x.on_stack.cost kind) xs
 
 -- no step that passes while a thread waits is one of its own
 abbrev pub AreOfOthers : List Step → Type 0

@@ -11,8 +11,8 @@ ghost use Rattle.wait_report.specs.Keeping.{begins, nothing, open_of, spot, sum_
 ghost use Rattle.wait_report.specs.Rows.{row_at, spots_of, wait_rows, wakers_at};
 ghost use Rattle.wait_report.specs.Standing.{StandsFor};
 ghost use Rattle.wait_report.specs.inner.Lookups.{spot_tells, wake_tells};
-ghost use Rattle.wait_report.specs.inner.Room.{AreInOrder, CanEnd, HasRoom, HasRoomForStep, IsSound, is_of};
-ghost use Rattle.wait_report.specs.inner.Room.{kept_of, only_at, waker_in, wake_order};
+ghost use Rattle.wait_report.specs.inner.Room.{AreInOrder, CanEnd, HasRoom, HasRoomForStep, IsSound, is_wake_of};
+ghost use Rattle.wait_report.specs.inner.Room.{books_of, only_at, waker_in, wake_order};
 
 use crate::rows::{WaitRow, WaitRows, Waker, WakerList};
 use crate::tally::{put, value_of};
@@ -107,7 +107,7 @@ fn keys_listed<K: Digits, V: Copy>(tally: &KeyTree<K, V>) -> Result<Vec<K>, OutO
 /// Those of the wakes that are at a spot.
 fn wakes_at(wakes: &[Wake], spot: Spot) -> &[Wake]
     requires { IsSorted wake_order wakes.now }
-    ensures { result.now ≡ filter (is_of spot) wakes.now }
+    ensures { result.now ≡ filter (is_wake_of spot) wakes.now }
 {
     let start = wakes.partition_point(|wake| wake.spot < spot);
     let end = wakes.partition_point(|wake| wake.spot <= spot);
@@ -117,7 +117,7 @@ fn wakes_at(wakes: &[Wake], spot: Spot) -> &[Wake]
 impl Books {
     /// Nothing has happened. It takes no memory.
     pub fn new(alloc: Global) -> Books
-        ensures { kept_of result ≡ nothing }
+        ensures { books_of result ≡ nothing }
     {
         Books {
             total: Cost::ZERO,
@@ -129,8 +129,8 @@ impl Books {
 
     /// Makes room for one more wait, and for a wake of every thread that has waited: for how many rows.
     pub fn reserve(&mut self) -> Result<usize, OutOfMemory>
-        ensures kept { kept_of self.new ≡ kept_of self.old }
-        ensures rows { IfOk result (λ rows. rows ≡ length (kept_of self.old).waiting + 1) }
+        ensures kept { books_of self.new ≡ books_of self.old }
+        ensures rows { IfOk result (λ rows. rows ≡ length (books_of self.old).waiting + 1) }
         ensures room { IfOk result (λ rows. HasRoom rows self.new) }
         ensures stays { (rows : ℕ) → HasRoom rows self.old → HasRoom rows self.new }
     {
@@ -143,7 +143,7 @@ impl Books {
 
     /// The open wait of a thread.
     fn open_of(&self, thread: ThreadNo) -> Option<Open>
-        ensures { result ≡ open_of thread (kept_of self.now) }
+        ensures { result ≡ open_of thread (books_of self.now) }
     {
         match self.waiting.get(&thread) {
             Some(held) => *held,
@@ -152,7 +152,7 @@ impl Books {
     }
 
     fn sum_of(&self, spot: Spot) -> Sum
-        ensures { result ≡ sum_of spot (kept_of self.now) }
+        ensures { result ≡ sum_of spot (books_of self.now) }
     {
         match value_of(&self.sums, &spot) {
             Some(sum) => sum,
@@ -164,7 +164,7 @@ impl Books {
     }
 
     fn times_of(&self, wake: Wake) -> u64
-        ensures { result ≡ times_of wake (kept_of self.now) }
+        ensures { result ≡ times_of wake (books_of self.now) }
     {
         match value_of(&self.wakes, &wake) {
             Some(times) => times,
@@ -175,8 +175,8 @@ impl Books {
     /// A thread begins to wait.
     pub fn begin(&mut self, thread: ThreadNo, word: u32)
         requires room { HasRoom 1 self.old }
-        requires fits { (sum_of (spot thread word) (kept_of self.old)).waits + 1 < 2 ^ 64 }
-        ensures { kept_of self.new ≡ begins thread word (kept_of self.old) }
+        requires fits { (sum_of (spot thread word) (books_of self.old)).waits + 1 < 2 ^ 64 }
+        ensures { books_of self.new ≡ begins thread word (books_of self.old) }
     {
         let spot = Spot { thread, word };
         let mut sum = self.sum_of(spot);
@@ -192,8 +192,8 @@ impl Books {
     /// A thread is woken by another: its open wait ends, if it has one.
     pub fn wake(&mut self, thread: ThreadNo, waker: ThreadNo)
         requires room { HasRoomForStep self.old }
-        requires fits { IfSome (open_of thread (kept_of self.old)) (CanEnd (kept_of self.old) waker thread) }
-        ensures kept { kept_of self.new ≡ wakes waker (kept_of self.old) thread }
+        requires fits { IfSome (open_of thread (books_of self.old)) (CanEnd (books_of self.old) waker thread) }
+        ensures kept { books_of self.new ≡ wakes waker (books_of self.old) thread }
         ensures room { HasRoomForStep self.new }
     {
         let Some(held) = self.open_of(thread) else {
@@ -214,7 +214,7 @@ impl Books {
 
     /// The open wait at a spot.
     fn open_at(&self, spot: Spot) -> Option<Open>
-        ensures { result ≡ only_at spot.word (open_of spot.thread (kept_of self.now)) }
+        ensures { result ≡ only_at spot.word (open_of spot.thread (books_of self.now)) }
     {
         match self.open_of(spot.thread) {
             Some(held) if held.word == spot.word => Some(held),
@@ -224,7 +224,7 @@ impl Books {
 
     /// The wakes by rising spot and waker.
     fn wakes(&self) -> Result<Vec<Wake>, OutOfMemory>
-        ensures { IfOk result (λ wakes. AreInOrder (kept_of self.now) wakes.items) }
+        ensures { IfOk result (λ wakes. AreInOrder (books_of self.now) wakes.items) }
     {
         let mut wakes = keys_listed(&self.wakes)?;
         wakes.sort()?;
@@ -234,7 +234,7 @@ impl Books {
     /// The wakers of these wakes, each with how many waits at the spot it has ended.
     fn with_times(&self, spot: Spot, wakes: &[Wake]) -> Result<WakerList, OutOfMemory>
         ensures { IfOk result (λ wakers.
-            wakers ≡ map (λ wake. waker_in spot (kept_of self.now) wake.waker) wakes.now) }
+            wakers ≡ map (λ wake. waker_in spot (books_of self.now) wake.waker) wakes.now) }
     {
         let mut items = Vec::with_capacity(self.wakes.allocator(), wakes.len())?;
         'wakes: for wake in wakes {
@@ -249,8 +249,8 @@ impl Books {
 
     /// The threads that have ended waits at a spot, by rising number, each with how many it has ended.
     fn wakers(&self, spot: Spot, wakes: &[Wake]) -> Result<WakerList, OutOfMemory>
-        requires { AreInOrder (kept_of self.now) wakes.now }
-        ensures { (xs : List Step) → StandsFor (kept_of self.now) xs
+        requires { AreInOrder (books_of self.now) wakes.now }
+        ensures { (xs : List Step) → StandsFor (books_of self.now) xs
             → IfOk result (λ wakers. wakers ≡ wakers_at spot xs) }
     {
         self.with_times(spot, wakes_at(wakes, spot))
@@ -258,9 +258,9 @@ impl Books {
 
     /// The row of a spot.
     fn row(&self, spot: Spot, wakes: &[Wake]) -> Result<WaitRow, OutOfMemory>
-        requires sound { IsSound (kept_of self.now) }
-        requires wakes { AreInOrder (kept_of self.now) wakes.now }
-        ensures { (xs : List Step) → StandsFor (kept_of self.now) xs → IfOk result (λ row. row ≡ row_at xs spot) }
+        requires sound { IsSound (books_of self.now) }
+        requires wakes { AreInOrder (books_of self.now) wakes.now }
+        ensures { (xs : List Step) → StandsFor (books_of self.now) xs → IfOk result (λ row. row ≡ row_at xs spot) }
     {
         let wakers = self.wakers(spot, wakes)?;
         let sum = self.sum_of(spot);
@@ -288,7 +288,7 @@ impl Books {
 
     /// The spots by rising thread and word.
     fn spots(&self) -> Result<Vec<Spot>, OutOfMemory>
-        ensures { (xs : List Step) → StandsFor (kept_of self.now) xs
+        ensures { (xs : List Step) → StandsFor (books_of self.now) xs
             → IfOk result (λ spots. spots.items ≡ spots_of xs) }
     {
         let mut spots = keys_listed(&self.sums)?;
@@ -298,8 +298,8 @@ impl Books {
 
     /// The rows of all spots.
     pub fn rows(&self) -> Result<WaitRows, OutOfMemory>
-        requires { IsSound (kept_of self.now) }
-        ensures { (xs : List Step) → StandsFor (kept_of self.now) xs → IfOk result (λ rows. rows ≡ wait_rows xs) }
+        requires { IsSound (books_of self.now) }
+        ensures { (xs : List Step) → StandsFor (books_of self.now) xs → IfOk result (λ rows. rows ≡ wait_rows xs) }
     {
         let spots = self.spots()?;
         let wakes = self.wakes()?;

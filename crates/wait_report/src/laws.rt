@@ -6,16 +6,16 @@ ghost use Rattle.part_dump.specs.Calls.{Call};
 ghost use Rattle.part_dump.specs.Steps.{Step, thread_of};
 ghost use Rattle.part_dump.specs.Watched.{steps_in};
 ghost use Rattle.part_dump.specs.Watching.{after_calls};
-ghost use Rattle.wait_report.specs.Keeping.{State, nothing, watching};
+ghost use Rattle.wait_report.specs.Keeping.{WaitState, nothing, watching};
 ghost use Rattle.wait_report.specs.Standing.{HaveSums, MayAllFollow, StandsFor};
 ghost use Rattle.wait_report.specs.Waits.{AreOfOthers};
 
 /// What a watch keeps after a whole run stands for the run's steps, so its rows are those of their waits. It does
 /// nothing: its contract is a law.
 pub fn what_is_kept_stands_for_the_run()
-    ensures { (syms : SymbolMap) (first : State) (calls : List Call) → first.kept ≡ nothing
+    ensures { (syms : SymbolMap) (first : WaitState) (calls : List Call) → first.books ≡ nothing
         → MayAllFollow [] (steps_in calls)
-        → StandsFor (after_calls watching syms first calls).kept (steps_in calls) }
+        → StandsFor (after_calls watching syms first calls).books (steps_in calls) }
 {}
 
 /// No step that passes while a thread waits is one of its own. It does nothing: its contract is a law.

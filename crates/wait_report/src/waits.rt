@@ -7,7 +7,7 @@ ghost use Rattle.wait_report.specs.Keeping.{IsRoomy, is_quiet, nothing, wakes_al
 ghost use Rattle.wait_report.specs.Rows.{wait_rows};
 ghost use Rattle.wait_report.specs.Standing.{CanSee, StandsFor};
 ghost use Rattle.wait_report.specs.inner.Law.{watching_keeps_room, watching_lasts};
-ghost use Rattle.wait_report.specs.inner.Room.{HasPassed, HasRoomForStep, kept_of};
+ghost use Rattle.wait_report.specs.inner.Room.{HasPassed, HasRoomForStep, books_of};
 
 use crate::books::Books;
 use crate::rows::WaitRows;
@@ -30,20 +30,20 @@ pub struct Waits {
 }
 
 impl Model for Waits {
-    ghost use Rattle.wait_report.specs.Keeping.{State};
-    ghost use Rattle.wait_report.specs.inner.Room.{HasRoom, IsSound, kept_of};
+    ghost use Rattle.wait_report.specs.Keeping.{WaitState};
+    ghost use Rattle.wait_report.specs.inner.Room.{HasRoom, IsSound, books_of};
 
-    ghost Value = { State };
+    ghost Value = { WaitState };
 
-    ghost view = { λ w. record { kept = kept_of w.books; room = w.room } };
+    ghost view = { λ w. record { books = books_of w.books; room = w.room } };
 
-    ghost invariant = { λ w. IsSound (kept_of w.books) × HasRoom w.room w.books };
+    ghost invariant = { λ w. IsSound (books_of w.books) × HasRoom w.room w.books };
 }
 
 impl Waits {
     /// A watch before any call. It takes no memory.
     pub fn new(alloc: Global) -> Waits
-        ensures { result ≡ record { kept = nothing; room = 0 } }
+        ensures { result ≡ record { books = nothing; room = 0 } }
     {
         Waits {
             alloc,
@@ -54,7 +54,7 @@ impl Waits {
 
     /// The waits of each thread at each word so far, by rising thread and word.
     pub fn rows(&self) -> Result<WaitRows, OutOfMemory>
-        ensures { (xs : List Step) → StandsFor self.now.kept xs → IfOk result (λ rows. rows ≡ wait_rows xs) }
+        ensures { (xs : List Step) → StandsFor self.now.books xs → IfOk result (λ rows. rows ≡ wait_rows xs) }
     {
         self.books.rows()
     }
@@ -72,8 +72,8 @@ fn is_quiet(wait: Option<u32>, woken: &[ThreadNo]) -> bool
 #[inline(never)]
 fn wake_all(books: &mut Books, woken: &[ThreadNo], waker: ThreadNo)
     requires room { HasRoomForStep books.old }
-    requires passed { HasPassed (kept_of books.old) waker }
-    ensures kept { kept_of books.new ≡ wakes_all waker woken.now (kept_of books.old) }
+    requires passed { HasPassed (books_of books.old) waker }
+    ensures kept { books_of books.new ≡ wakes_all waker woken.now (books_of books.old) }
     ensures room { HasRoomForStep books.new }
 {
     'woken: for thread in woken {
@@ -84,7 +84,7 @@ fn wake_all(books: &mut Books, woken: &[ThreadNo], waker: ThreadNo)
 impl Watch for Waits {
     ghost meaning = { watching };
 
-    ghost fresh = { λ w syms. w.kept ≡ nothing };
+    ghost fresh = { λ w syms. w.books ≡ nothing };
 
     ghost has_room = { λ w thread. IsRoomy w };
 

@@ -2,8 +2,8 @@
 
 ghost use Rattle.std.specs.Prelude.{◌≡◌, ◌++◌, ◌<◌, ◌^◌, ◌∷◌, [], ℕ, IfOk, OnOk, codes};
 ghost use Rattle.std.specs.Prelude.{decimal, flat_map, map, slice_index, sum_by};
-ghost use Rattle.byte_text.specs.Names.{cleaned};
-ghost use Rattle.cg_format.specs.Marks.{cost_text, spaced};
+ghost use Rattle.byte_text.specs.Names.{clean_name};
+ghost use Rattle.cg_format.specs.Marks.{cost_text, words_text};
 ghost use Rattle.wait_report.specs.Texts.{command_text, cost_line, events_text, number_text, row_text, spot_text};
 ghost use Rattle.wait_report.specs.Texts.{sum_of_rows, total_text, waits_text, waker_text};
 
@@ -14,7 +14,7 @@ use std::alloc::Global;
 
 /// Appends names, each after a space.
 fn push_names(text: &mut Text, names: &[&str]) -> Result<(), OutOfMemory>
-    ensures { OnOk result (text.new ≡ text.old ++ spaced (map (λ name. name.now) names.now)) }
+    ensures { OnOk result (text.new ≡ text.old ++ words_text (map (λ name. name.now) names.now)) }
 {
     'names: for name in names {
         text.push(b" ")?;
@@ -44,7 +44,7 @@ fn push_after(text: &mut Text, words: &[u8], number: u64) -> Result<(), OutOfMem
 
 /// Appends a text, cleaned.
 fn push_cleaned(alloc: Global, text: &mut Text, name: &Text) -> Result<(), OutOfMemory>
-    ensures { OnOk result (text.new ≡ text.old ++ cleaned name.now) }
+    ensures { OnOk result (text.new ≡ text.old ++ clean_name name.now) }
 {
     let name = clean_name(alloc, name.as_bytes())?;
     text.push(name.as_bytes())
@@ -108,7 +108,7 @@ fn push_cost(text: &mut Text, branch: bool, cost: &Cost) -> Result<(), OutOfMemo
     ensures { OnOk result (text.new ≡ text.old ++ cost_line branch cost.now) }
 {
     text.push(b" cost")?;
-    push_numbers(text, cost.shown(branch))?;
+    push_numbers(text, cost.shown_numbers(branch))?;
     text.push(b"\n")
 }
 
@@ -149,7 +149,7 @@ fn push_total(text: &mut Text, branch: bool, sum: &Cost) -> Result<(), OutOfMemo
     ensures { OnOk result (text.new ≡ text.old ++ total_text branch sum.now) }
 {
     text.push(b"total")?;
-    push_numbers(text, sum.shown(branch))?;
+    push_numbers(text, sum.shown_numbers(branch))?;
     text.push(b"\n")
 }
 

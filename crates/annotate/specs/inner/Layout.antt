@@ -10,7 +10,7 @@ use Rattle.annotate.specs.Calls.{callees_text, callers_text}
 use Rattle.annotate.specs.Names.{costs_text}
 use Rattle.report_rows.specs.Orders.{AreInOrder, members, numbers}
 use Rattle.annotate.specs.Functions.{function_text, self_text}
-use Rattle.report_rows.specs.Entries.{AreWithin, Keyed, calls_of, costs_of, is_at}
+use Rattle.report_rows.specs.Entries.{AreWithin, EntryValue, calls_of, costs_of, is_at}
 use Rattle.report_rows.specs.Lists.{AreCallLists}
 use Rattle.report_rows.specs.Ranks.{ArePlaces}
 use Rattle.report_rows.specs.Tables.{AreLists}
@@ -63,19 +63,19 @@ cost_between v f g cost =
     if group_at v.groups.now f == group_at v.groups.now g then codes "-" else costs_text cost
 
 -- the calls between a function and another one, where these are their rows
-abbrev pub neighbour_line : View → List ℕ → ℕ → ℕ → List Keyed → List ℕ
+abbrev pub neighbour_line : View → List ℕ → ℕ → ℕ → List EntryValue → List ℕ
 neighbour_line v mark f g ks =
     mark ++ decimal (calls_of ks) ++ codes " | " ++ cost_between v f g (costs_of (length v.profile.now.events) ks)
     ++ codes " | " ++ function_text v.profile.now g ++ codes "\n"
 
 -- by places, those at which rows stand
-abbrev pub neighbours_text : View → List ℕ → ℕ → List Keyed → List ℕ
+abbrev pub neighbours_text : View → List ℕ → ℕ → List EntryValue → List ℕ
 neighbours_text v mark f ks =
     flat_map (λ place. neighbour_line v mark f (slice_index v.functions.now place) (filter (is_at place) ks))
     (filter (λ place. list_any (is_at place) ks) (numbers (length v.functions.now)))
 
 -- the rows stand at places of functions, and no sum of those at a place passes 2^64 - 1
-pub record AreNeighbours (v : View) (ks : List Keyed) : Type 0 where
+pub record AreNeighbours (v : View) (ks : List EntryValue) : Type 0 where
   pub below : All (λ k. k.at < length v.functions.now) ks
   pub within : (place : ℕ) → place < length v.functions.now
       → AreWithin (length v.profile.now.events) (filter (is_at place) ks)

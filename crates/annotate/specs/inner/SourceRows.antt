@@ -7,7 +7,7 @@ use Rattle.std.specs.Borrow.{Bor}
 use Rattle.cg_read.specs.Profiles.{Contents, file_at, has_text}
 use Rattle.annotate.specs.Names.{costs_text}
 use Rattle.annotate.specs.Files.{is_in_file}
-use Rattle.report_rows.specs.Entries.{Keyed, costs_of, self_entry}
+use Rattle.report_rows.specs.Entries.{EntryValue, costs_of, self_entry}
 use Rattle.report_rows.specs.Orders.{text_order}
 use Rattle.report_rows.specs.declared.entries.By.TheVariants as by
 
@@ -22,11 +22,11 @@ pub record AreNumbersOf (files : List (List ℕ)) (numbers : BTreeMap (List ℕ)
   pub absent : (name : List ℕ) → get text_order numbers name ≡ None → has_text files name ≡ false
 
 -- the self rows of the file with a name
-abbrev pub AreRowsOfFile : Contents → List ℕ → List Keyed → Type 0
+abbrev pub AreRowsOfFile : Contents → List ℕ → List EntryValue → Type 0
 AreRowsOfFile p name ks = ks ≡ map (self_entry by.File) (filter (is_in_file p name) p.self_rows)
 
 -- what was counted in these rows, where there are any
-abbrev pub costs_or_dot : ℕ → Option (List Keyed) → List ℕ
+abbrev pub costs_or_dot : ℕ → Option (List EntryValue) → List ℕ
 costs_or_dot events None = codes "."
 costs_or_dot events (Some ks) = costs_text (costs_of events ks)
 
@@ -34,5 +34,5 @@ costs_or_dot events (Some ks) = costs_text (costs_of events ks)
 abbrev pub is_outside : ℕ → ℕ → Bool
 is_outside count line = nat_lt line 1 || nat_lt count line
 
-abbrev pub other_with : ℕ → ℕ → List Keyed → List ℕ
+abbrev pub other_with : ℕ → ℕ → List EntryValue → List ℕ
 other_with events line ks = costs_text (costs_of events ks) ++ codes " | <line " ++ decimal line ++ codes ">\n"

@@ -14,8 +14,8 @@ module _ {K A : Type 0} where
   all_rows known newest = known ++ option_to_list newest
 
   -- a new key takes the slot where it is empty
-  abbrev pub seen : List (K × A) → Option (K × A) → ℕ → Entries K A
-  seen known newest ahead =
+  abbrev pub table_entries : List (K × A) → Option (K × A) → ℕ → Entries K A
+  table_entries known newest ahead =
       record { rows = all_rows known newest; room = if is_some newest then 0 else 1; ahead = ahead }
 
   pub record IsSound (same : K → K → Bool) (is_whole : A → Type 0) (known : List (K × A))

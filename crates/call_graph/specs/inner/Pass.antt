@@ -5,18 +5,18 @@ use Rattle.std.specs.Prelude.{None}
 use Rattle.call_graph.specs.Reach.{Reach, SameGroup}
 use Rattle.call_graph.specs.Groups.{IsNumbering}
 use Rattle.call_graph.specs.inner.Rows.{Calls, StayWithin}
-use Rattle.call_graph.specs.declared.state.Mark.{Mark}
-use Rattle.call_graph.specs.declared.state.State.{State}
-use Rattle.call_graph.specs.declared.state.State.TheVariants.{New, Open, Closed}
+use Rattle.call_graph.specs.declared.visit_state.Mark.{Mark}
+use Rattle.call_graph.specs.declared.visit_state.VisitState.{VisitState}
+use Rattle.call_graph.specs.declared.visit_state.VisitState.TheVariants.{New, Open, Closed}
 use Rattle.call_graph.specs.declared.pass.Pass.{Pass}
 
 -- A function's rank only grows: 0 where it wasn't met, then its place on the path and one, then more than any place.
-abbrev pub rank_of : ℕ → State → ℕ
+abbrev pub rank_of : ℕ → VisitState → ℕ
 rank_of n New = 0
 rank_of n (Open place) = place + 1
 rank_of n (Closed group) = n + 1 + group
 
-abbrev pub ranks : List State → List ℕ
+abbrev pub ranks : List VisitState → List ℕ
 ranks states = map (rank_of (length states)) states
 
 abbrev pub mark : ℕ → ℕ → Mark
@@ -29,12 +29,12 @@ abbrev pub height : List Mark → ℕ → ℕ
 height marks k = (slice_index_or marks k (mark 0 0)).height
 
 -- an open function's place is below n
-abbrev pub IsFair : ℕ → State → Type 0
+abbrev pub IsFair : ℕ → VisitState → Type 0
 IsFair n New = Unit {0}
 IsFair n (Open place) = place < n
 IsFair n (Closed group) = Unit {0}
 
-abbrev pub KeepsFair : List State → List State → Type 0
+abbrev pub KeepsFair : List VisitState → List VisitState → Type 0
 KeepsFair old new = (n : ℕ) → All (IsFair n) old → All (IsFair n) new
 
 -- What the functions do
@@ -50,23 +50,23 @@ pub record IsEntered (old : Pass) (callees : List ℕ) (function : ℕ) (new : P
 -- the marks that start at the rank or above are dropped from the end, as far as they go
 pub record IsCut (old : List Mark) (rank : ℕ) (new : List Mark) : Type 0 where
   pub few : length new ≤ length old
-  pub kept : new ≡ take (length new) old
+  pub front : new ≡ take (length new) old
   pub dropped : (k : ℕ) → length new ≤ k → k < length old → rank ≤ start old k
   pub last : 0 < length new → start old (length new - 1) < rank
 
 -- the weights of the functions that weren't met, together
-abbrev pub left : List ℕ → List ℕ → ℕ
-left [] rank = 0
-left (w ∷ ws) [] = 0
-left (w ∷ ws) (r ∷ rank) = (if r == 0 then w else 0) + left ws rank
+abbrev pub unmet_weight : List ℕ → List ℕ → ℕ
+unmet_weight [] rank = 0
+unmet_weight (w ∷ ws) [] = 0
+unmet_weight (w ∷ ws) (r ∷ rank) = (if r == 0 then w else 0) + unmet_weight ws rank
 
 -- these functions, which were met before, have this rank now, and the others theirs
 pub record IsRanked (old : List ℕ) (functions : List ℕ) (rank : ℕ) (new : List ℕ) : Type 0 where
   pub size : length new ≡ length old
-  pub given : (p : ℕ) → p < length functions → slice_index new (slice_index functions p) ≡ rank
-  pub kept : (g : ℕ) → ((p : ℕ) → p < length functions → slice_index functions p ≢ g)
+  pub have_rank : (p : ℕ) → p < length functions → slice_index new (slice_index functions p) ≡ rank
+  pub others : (g : ℕ) → ((p : ℕ) → p < length functions → slice_index functions p ≢ g)
       → slice_index new g ≡ slice_index old g
-  pub weights : (ws : List ℕ) → left ws new ≡ left ws old
+  pub weights : (ws : List ℕ) → unmet_weight ws new ≡ unmet_weight ws old
 
 -- the functions of the path from the start on are the group with the next number
 pub record IsShut (old : Pass) (start : ℕ) (new : Pass) : Type 0 where
@@ -108,7 +108,7 @@ pub record IsMark (Step : ℕ → ℕ → Type 0) (taken : Option ℕ) (rank pat
 pub record IsPass (n : ℕ) (Step : ℕ → ℕ → Type 0) (taken : Option ℕ) (rank path work : List ℕ) (marks : List Mark)
     (count : ℕ) : Type 0 where
   pub size : length rank ≡ n
-  pub room : count + length path + left (replicate n 1) rank ≤ n
+  pub room : count + length path + unmet_weight (replicate n 1) rank ≤ n
   -- ranks and path say the same
   pub placed : (p : ℕ) → p < length path → slice_index rank (slice_index path p) ≡ p + 1
   pub found : (g : ℕ) → 0 < slice_index rank g → slice_index rank g ≤ n
@@ -140,7 +140,7 @@ Keeps old new = (g : ℕ) → 0 < slice_index (ranks old.states.items) g → 0 <
 -- what is left to do
 abbrev pub remaining : List (List ℕ) → Pass → ℕ
 remaining rows pass =
-    left (map (λ row. length row + 1) rows) (ranks pass.states.items) + length pass.work.items + length pass.marks.items
+    unmet_weight (map (λ row. length row + 1) rows) (ranks pass.states.items) + length pass.work.items + length pass.marks.items
 
 -- a function was taken from the list of work, and can be looked at
 pub record CanLook (rows : List (List ℕ)) (pass : Pass) (function : ℕ) : Type 0 where
@@ -162,12 +162,12 @@ pub record IsLater (rows : List (List ℕ)) (old new : Pass) : Type 0 where
   pub met : Keeps old new
 
 -- the function's group is finished
-abbrev pub IsClosed : State → Type 0
+abbrev pub IsClosed : VisitState → Type 0
 IsClosed New = ⊥
 IsClosed (Open place) = ⊥
 IsClosed (Closed group) = Unit {0}
 
-abbrev pub group_in : State → ℕ
+abbrev pub group_in : VisitState → ℕ
 group_in New = 0
 group_in (Open place) = 0
 group_in (Closed group) = group

@@ -2,12 +2,12 @@
 use Rattle.std.specs.Prelude.{List, [], ◌∷◌, ◌++◌}
 use Rattle.sym_map.specs.SymbolMap.{SymbolMap}
 use Rattle.part_dump.specs.Calls.{Call, Readies, Sees, Writes}
-use Rattle.part_dump.specs.Watched.{Watched}
+use Rattle.part_dump.specs.Watched.{AreWatched}
 use Rattle.part_dump.specs.Watching.{Can, KeepsRoom, after_calls}
-use Rattle.cases_parts.specs.Tallied.{Tallied, tally}
+use Rattle.cases_parts.specs.TallyState.{TallyState, tally}
 
-pub tally_lasts : (syms : SymbolMap) (first : Tallied) (calls : List Call) (call : Call) → Unit {0}
-    → Watched syms (calls ++ call ∷ [])
+pub tally_lasts : (syms : SymbolMap) (first : TallyState) (calls : List Call) (call : Call) → Unit {0}
+    → AreWatched syms (calls ++ call ∷ [])
     → Can (λ w event cost wait woken syms. Unit {0}) (λ w head rows syms. Unit {0}) syms
     (after_calls tally syms first calls)
     call

@@ -30,8 +30,8 @@ IsAppended old other new =
     HasRows (old.functions ++ missing same_function old.functions other.functions) old other new
 
 -- a function whose texts have other numbers
-abbrev pub renumbered : List ℕ → FunctionNumbers → FunctionNumbers
-renumbered numbers f = record {
+abbrev pub renumber : List ℕ → FunctionNumbers → FunctionNumbers
+renumber numbers f = record {
   object = slice_index numbers f.object;
   file = slice_index numbers f.file;
   name = slice_index numbers f.name;

@@ -37,4 +37,4 @@ other_number ids id = get (slice_cmp nat_cmp) ids.others id
 
 -- the number of the text that an id stands for
 unfoldable pub number_in : Ids → List ℕ → Option ℕ
-number_in ids id = number_or id (at_place ids.counted.items (place_of id)) (other_number ids id)
+number_in ids id = number_or id (at_place ids.slots.items (place_of id)) (other_number ids id)

@@ -1,7 +1,7 @@
 -- What a reader of lines with addresses knows of those that it has read.
 use Rattle.std.specs.Prelude.{◌≡◌, ◌∷◌, List, None, Result, MatchResult}
 use Rattle.cg_read.specs.Addresses as addresses
-use Rattle.cg_read.specs.Addresses.{bare, fault}
+use Rattle.cg_read.specs.Addresses.{without_addresses, fault}
 use Rattle.cg_read.specs.inner.Knowing.{Knows}
 use Rattle.cg_lines.specs.Faults.{Refuses}
 use Rattle.cg_lines.specs.declared.fault.Fault.{Fault}
@@ -10,7 +10,7 @@ use Rattle.cg_read.specs.declared.addr_reader.AddrReader.{AddrReader}
 
 -- It knows the lines without their addresses, and the addresses.
 pub record KnowsAddresses (r : AddrReader) (before : List AddressedLine) : Type 0 where
-  pub lines : Knows r.reader (bare before)
+  pub lines : Knows r.reader (without_addresses before)
   pub positions : r.has_positions ≡ addresses.has_positions before
   pub base : r.addresses.base ≡ addresses.base before
   pub self_rows : r.addresses.self_rows.items ≡ addresses.self_addresses before

@@ -46,7 +46,7 @@ numbers_order x y =
 -- the texts differ, and the functions are of them
 pub record AreOfTexts (texts : List (List ℕ)) (numbered : List FunctionNumbers) : Type 0 where
   pub differ : AreApart texts
-  pub known : All (IsOfTexts (length texts)) numbered
+  pub of_texts : All (IsOfTexts (length texts)) numbered
 
 abbrev pub text_in : List (List ℕ) → ℕ → List ℕ
 text_in texts n = slice_index_or texts n []

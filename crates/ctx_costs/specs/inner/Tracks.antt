@@ -16,12 +16,12 @@ use Rattle.shadow_stack.specs.Stacks.{Activation, is_rooted}
 use Rattle.shadow_stack.specs.declared.frame.Frame.{Frame}
 use Rattle.arc_costs.specs.Arcs.{add_arcs, arc_sum, call_sum, has_arc}
 use Rattle.arc_costs.specs.Lines.{add_line, has_line, line, line_sum}
-use Rattle.recorder.specs.Notes.{open_sum, told_rows}
+use Rattle.recorder.specs.Notes.{open_sum, rows_of_tellings}
 use Rattle.recorder.specs.Laws.{AreApart}
 use Rattle.recorder.specs.inner.Books.{AreKeyed}
 use Rattle.ctx_rows.specs.Contexts.{Context, AreDistinct, number, with_context}
 use Rattle.ctx_rows.specs.Tracks.{AreNumbered, IsArcOf, IsNumber}
-use Rattle.ctx_rows.specs.States.{Track, begun, dropped, kept, top_number}
+use Rattle.ctx_rows.specs.States.{Track, first_track, dropped_track_frames, kept_track_frames, top_number}
 use Rattle.ctx_costs.specs.inner.Keys.{Held}
 use Rattle.ctx_costs.specs.declared.track.Track.{Track as BookOf}
 
@@ -50,10 +50,10 @@ stepped at fresh syms e cost t =
     record {
       thread = t.thread;
       stack = after syms t.stack e;
-      frames = with_frame total fresh (kept syms e t);
+      frames = with_frame total fresh (kept_track_frames syms e t);
       total = total;
       lines = add_line t.lines (line (record { func = top_number t.frames; file = at.file; line = at.line }) cost);
-      arcs = add_arcs t.arcs (told_rows (closings total (dropped syms e t) ++ pushing fresh));
+      arcs = add_arcs t.arcs (rows_of_tellings (closings total (dropped_track_frames syms e t) ++ pushing fresh));
     }
 
 -- A step takes no memory.
@@ -114,7 +114,7 @@ pub record HasBegun (thread : ThreadNo) (func : FuncId) (books : List Book) (hel
     : Type 0 where
   pub book : Book
   pub all : more ≡ books ++ book ∷ []
-  pub track : track_of book ≡ begun thread func (number held.contexts (func.0 ∷ []))
+  pub track : track_of book ≡ first_track thread func (number held.contexts (func.0 ∷ []))
   pub starts : StartWithin no_cost book.stack.frames
   pub roomy : IsRoomy book
   pub contexts : now.contexts ≡ with_context held.contexts (func.0 ∷ [])

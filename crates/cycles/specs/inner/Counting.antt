@@ -26,7 +26,7 @@ pub record IsAdded (old cost : List ℕ) (limit : ℕ) (new : List ℕ) (new_lim
   pub less : new_limit ≤ limit
   pub exact : (k : ℕ) → k < new_limit → k < length old
       → (slice_index new k ≡ slice_index old k + slice_index cost k) × (slice_index old k + slice_index cost k < 2 ^ 64)
-  pub over : new_limit < limit
+  pub too_large : new_limit < limit
       → (new_limit < length old) × (2 ^ 64 ≤ slice_index old new_limit + slice_index cost new_limit)
 
 -- the same at a place of a table
@@ -75,7 +75,7 @@ pub record AddsCalls (old : Sums) (pair calls : ℕ) (new : Sums) : Type 0 where
   pub exact : length old.totals.items < new.limit
       → (slice_index new.calls.items pair ≡ slice_index old.calls.items pair + calls)
       × (slice_index old.calls.items pair + calls < 2 ^ 64)
-  pub over : new.limit < old.limit
+  pub too_large : new.limit < old.limit
       → (new.limit ≡ length old.totals.items) × (2 ^ 64 ≤ slice_index old.calls.items pair + calls)
 
 -- What holds of the sums
@@ -99,7 +99,7 @@ pub record Holds (p : Contents) (group_count pair_count : ℕ) (total : ℕ → 
     (sums : Sums) : Type 0 where
   pub shape : HasShape (length p.events) group_count pair_count sums
   pub last : sums.limit ≤ length p.events + 1
-  pub over : sums.limit ≤ length p.events → IsOver p sums.limit
+  pub too_large : sums.limit ≤ length p.events → IsOver p sums.limit
   pub totals : IsExact sums.limit total sums.totals.items
   pub groups : (g : ℕ) → g < group_count → IsExact sums.limit (group g) (list_at sums.groups.items g)
   pub pairs : (n : ℕ) → n < pair_count → IsExact sums.limit (pair n) (list_at sums.pairs.items n)

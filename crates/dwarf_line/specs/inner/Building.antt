@@ -2,7 +2,7 @@
 use Rattle.std.specs.Prelude.{◌≡◌, ℕ, ◌+◌, List, [], ◌∷◌, ◌++◌, length, map, Option, Some, None}
 use Rattle.dwarf_line.specs.Entry.{StringSections}
 use Rattle.dwarf_line.specs.LineRow.{LineRow}
-use Rattle.dwarf_line.specs.LineTable.{sequence_in, with_text}
+use Rattle.dwarf_line.specs.Rows.{sequence_in, with_text}
 use Rattle.dwarf_line.specs.Program.{SequenceOf, sequence_by}
 use Rattle.dwarf_line.specs.inner.Matrix.{OpenMatrix, numbered_row, with_sequences}
 use Rattle.dwarf_line.specs.FileText.{unknown}

@@ -5,11 +5,11 @@ use Rattle.std.specs.Prelude.{drop, Option, Some, None}
 use Rattle.std.specs.List.{flat_map}
 use Rattle.dwarf_line.specs.declared.row.Row.{Row}
 use Rattle.dwarf_line.specs.declared.row.Sequence.{Sequence}
-use Rattle.dwarf_line.specs.declared.state.State.{State}
-use Rattle.dwarf_line.specs.declared.state.Outcome.{Outcome}
-use Rattle.dwarf_line.specs.declared.state.Outcome.TheVariants as outcome
+use Rattle.dwarf_line.specs.declared.registers.Registers.{Registers}
+use Rattle.dwarf_line.specs.declared.registers.Outcome.{Outcome}
+use Rattle.dwarf_line.specs.declared.registers.Outcome.TheVariants as outcome
 use Rattle.dwarf_line.specs.Program.{SequenceOf, allows}
-use Rattle.dwarf_line.specs.LineTable.{row_address}
+use Rattle.dwarf_line.specs.Rows.{row_address}
 
 -- rows, sequences and the place at which the open sequence begins
 pub record OpenMatrix : Type 0 where
@@ -19,7 +19,7 @@ pub record OpenMatrix : Type 0 where
 
 -- A row of the registers. The files of the unit have the numbers from `before` on, and a number that the
 -- unit doesn't have is 0.
-abbrev pub numbered_row : ℕ → ℕ → State → Row
+abbrev pub numbered_row : ℕ → ℕ → Registers → Row
 numbered_row before count state =
     record {
       addr = state.address;

@@ -3,7 +3,7 @@ use Rattle.std.specs.Prelude.{ℕ, ◌+◌, ◌<◌, ◌≤◌, ◌^◌, List, l
 use Rattle.std.specs.List.{AllByRecursion}
 use Rattle.dwarf_line.specs.declared.row.Row.{Row}
 use Rattle.dwarf_line.specs.declared.row.Sequence.{Sequence}
-use Rattle.dwarf_line.specs.LineTable.{IsPlaced, IsRising, row_address, sequence_in}
+use Rattle.dwarf_line.specs.Rows.{IsPlaced, IsRising, row_address, sequence_in}
 
 -- All places and all numbers of files are in range, and sequences rise. There are fewer files than 32 bits can number:
 -- a unit has no more of them than bytes behind its length, which takes four, and a section is shorter than 2^32 bytes.

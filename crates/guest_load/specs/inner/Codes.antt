@@ -4,7 +4,7 @@ use Rattle.std.specs.Coded.{Coded, code_by, coded×, coded_ℕ, coded_list}
 use Rattle.std.specs.FinMap as map
 use Rattle.guest_mem.specs.Memory.{Memory, cell_code}
 use Rattle.guest_load.specs.declared.thread.Thread.{Thread}
-use Rattle.guest_load.specs.State.{State}
+use Rattle.guest_load.specs.Guest.{Guest}
 
 abbrev pub thread_code : Coded Thread
 thread_code =
@@ -13,8 +13,8 @@ thread_code =
     (λ p. record { no = record { 0 = p.0 }; regs = record { pc = p.1.0; x = p.1.1.0 }; clear = p.1.1.1 })
     (λ _. refl)
 
-abbrev pub state_code : Coded State
-state_code =
+abbrev pub guest_code : Coded Guest
+guest_code =
     code_by (Memory × (List Thread × (ℕ × (ℕ × (List ℕ × (ℕ × (ℕ × ℕ)))))))
     (coded× (map.code coded_ℕ cell_code)
     (coded× (coded_list thread_code)

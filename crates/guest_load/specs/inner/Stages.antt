@@ -3,16 +3,16 @@ use Rattle.std.specs.Prelude.{◌≡◌, ℕ, ◌/◌, List, Option, Some, None,
 use Rattle.std.specs.Option.{option_map}
 use Rattle.elf_read.specs.Standard.{pf_r, pf_w, pf_x, has_flag}
 use Rattle.elf_read.specs.declared.program.Segment.{Segment}
-use Rattle.guest_mem.specs.Memory.{Cell, granted, with_byte}
+use Rattle.guest_mem.specs.Memory.{Cell, granted_permission, with_byte}
 use Rattle.guest_load.specs.Segments.{touches, is_touched, permission_bits, page_permission, segment_byte}
 
 -- the permission that a segment gives
-abbrev pub own_permission : Segment → ℕ
-own_permission s = permission_bits (has_flag pf_r s.flags) (has_flag pf_w s.flags) (has_flag pf_x s.flags)
+abbrev pub segment_permission : Segment → ℕ
+segment_permission s = permission_bits (has_flag pf_r s.flags) (has_flag pf_w s.flags) (has_flag pf_x s.flags)
 
 -- the permission of a page, where it has one, once a segment is there too
-abbrev pub permitted : Segment → ℕ → Option ℕ → Option ℕ
-permitted s page old = if touches page s then Some (bit_or (unwrap_or old 0) (own_permission s)) else old
+abbrev pub permission_with : Segment → ℕ → Option ℕ → Option ℕ
+permission_with s page old = if touches page s then Some (bit_or (unwrap_or old 0) (segment_permission s)) else old
 
 -- the permission of a page that a segment touches
 abbrev pub page_plan : List Segment → ℕ → Option ℕ
@@ -24,7 +24,7 @@ IsTable table plan = (page : ℕ) → slice_index_or table page None ≡ plan pa
 
 -- the zeros of a page that has a permission
 abbrev pub blank : Option ℕ → Option Cell
-blank = option_map (λ permission. record { byte = 0; permission = granted permission })
+blank = option_map (λ permission. record { byte = 0; permission = granted_permission permission })
 
 -- the pages of a table, from page 0 on, with zeros
 unfoldable pub table_cell : List (Option ℕ) → ℕ → Option Cell

@@ -2,7 +2,7 @@
 use Rattle.std.specs.Prelude.{◌≡◌, ℕ, ◌+◌, ◌/◌, ◌%◌, ◌<◌, ◌==◌, ◌&&◌, Bool, false, if◌then◌else◌, List, length, take}
 use Rattle.std.specs.Prelude.{drop, ◌++◌, IsTrue, nat_lt, slice_get, Option, replicate}
 use Rattle.std.specs.Option.{option_map, option_map_or, option_and_then, ForSome}
-use Rattle.guest_mem.specs.Memory.{Cell, Memory, memory_of, granted, allows}
+use Rattle.guest_mem.specs.Memory.{Cell, Memory, memory_of, granted_permission, allows}
 
 pub record PageValue : Type 0 where
   pub permission : ℕ
@@ -10,7 +10,7 @@ pub record PageValue : Type 0 where
 
 -- a permission in which to write is to read
 abbrev pub is_granted : ℕ → Bool
-is_granted permission = nat_lt permission 8 && (granted permission == permission)
+is_granted permission = nat_lt permission 8 && (granted_permission permission == permission)
 
 pub record IsWhole (page : PageValue) : Type 0 where
   pub lawful : IsTrue (is_granted page.permission)
@@ -24,7 +24,7 @@ unfoldable pub zeros : List ℕ
 zeros = replicate 4096 0
 
 abbrev pub zero_page : ℕ → PageValue
-zero_page permission = record { permission = granted permission; bytes = zeros }
+zero_page permission = record { permission = granted_permission permission; bytes = zeros }
 
 -- the page with bs from i on, where its permission has all bits that are wanted
 abbrev pub written_where : ℕ → ℕ → List ℕ → PageValue → PageValue
@@ -34,7 +34,7 @@ written_where want i bs page = if allows want page.permission then record {
 } else page
 
 abbrev pub protected_page : ℕ → PageValue → PageValue
-protected_page permission page = record { permission = granted permission; bytes = page.bytes }
+protected_page permission page = record { permission = granted_permission permission; bytes = page.bytes }
 
 -- whether there is a page and its permission has all bits that are wanted
 abbrev pub page_allows : ℕ → Option PageValue → Bool

@@ -6,10 +6,10 @@ use Rattle.event_costs.specs.declared.numbers.ThreadNo.{ThreadNo}
 use Rattle.event_costs.specs.declared.outcome.End.{End}
 use Rattle.event_costs.specs.declared.outcome.End.TheVariants.{Exited, Killed, UnsupportedInstr, UnsupportedCall, Budget}
 use Rattle.event_costs.specs.declared.outcome.End.TheVariants.{Frames, AllWaiting}
-use Rattle.guest_sys.specs.Sys.{Sys, sys_code}
-use Rattle.guest_sched.specs.Line.{Line}
-use Rattle.guest_sched.specs.Whole.{Whole}
-use Rattle.guest_sched.specs.Seen.{Seen}
+use Rattle.guest_sys.specs.Kernel.{Kernel, kernel_code}
+use Rattle.guest_sched.specs.RunQueue.{RunQueue}
+use Rattle.guest_sched.specs.Engine.{Engine}
+use Rattle.guest_sched.specs.Machine.{Machine}
 
 abbrev pub thread_code : Coded ThreadNo
 thread_code = code_by ℕ coded_ℕ (λ t. t.0) (λ n. record { 0 = n }) (λ _. refl)
@@ -19,20 +19,20 @@ generator_code =
     code_by (ℕ × ℕ) (coded× coded_ℕ coded_ℕ) (λ g. (g.state, g.increment))
     (λ p. record { state = p.0; increment = p.1 }) (λ _. refl)
 
-abbrev pub line_code : Coded Line
-line_code =
+abbrev pub run_queue_code : Coded RunQueue
+run_queue_code =
     code_by (List ThreadNo × (ℕ × (ℕ × Option Lcg)))
     (coded× (coded_list thread_code) (coded× coded_ℕ (coded× coded_ℕ (coded_option generator_code))))
-    (λ l. (l.ready, (l.left, (l.quantum, l.generator))))
-    (λ p. record { ready = p.0; left = p.1.0; quantum = p.1.1.0; generator = p.1.1.1 })
+    (λ l. (l.ready, (l.steps_left, (l.quantum, l.generator))))
+    (λ p. record { ready = p.0; steps_left = p.1.0; quantum = p.1.1.0; generator = p.1.1.1 })
     (λ _. refl)
 
-abbrev pub whole_code : Coded Whole
-whole_code =
-    code_by (Sys × (Option ℕ × (Line × Option ℕ)))
-    (coded× sys_code (coded× (coded_option coded_ℕ) (coded× line_code (coded_option coded_ℕ))))
-    (λ w. (w.sys, (w.held, (w.line, w.exit))))
-    (λ p. record { sys = p.0; held = p.1.0; line = p.1.1.0; exit = p.1.1.1 })
+abbrev pub engine_code : Coded Engine
+engine_code =
+    code_by (Kernel × (Option ℕ × (RunQueue × Option ℕ)))
+    (coded× kernel_code (coded× (coded_option coded_ℕ) (coded× run_queue_code (coded_option coded_ℕ))))
+    (λ w. (w.kernel, (w.held, (w.run_queue, w.exit))))
+    (λ p. record { kernel = p.0; held = p.1.0; run_queue = p.1.1.0; exit = p.1.1.1 })
     (λ _. refl)
 
 -- an end as three numbers, of which the first tells the kind
@@ -67,10 +67,10 @@ abbrev pub end_code : Coded End
 end_code =
     code_by (ℕ × (ℕ × ℕ)) (coded× coded_ℕ (coded× coded_ℕ coded_ℕ)) end_numbers (λ p. end_of p.0 p.1) end_of-numbers
 
-abbrev pub seen_code : Coded Seen
-seen_code =
-    code_by (Whole × (Option End × (Option ℕ × List ThreadNo)))
-    (coded× whole_code (coded× (coded_option end_code) (coded× (coded_option coded_ℕ) (coded_list thread_code))))
-    (λ m. (m.whole, (m.given, (m.wait, m.woken))))
-    (λ p. record { whole = p.0; given = p.1.0; wait = p.1.1.0; woken = p.1.1.1 })
+abbrev pub machine_code : Coded Machine
+machine_code =
+    code_by (Engine × (Option End × (Option ℕ × List ThreadNo)))
+    (coded× engine_code (coded× (coded_option end_code) (coded× (coded_option coded_ℕ) (coded_list thread_code))))
+    (λ m. (m.engine, (m.given, (m.wait, m.woken))))
+    (λ p. record { engine = p.0; given = p.1.0; wait = p.1.1.0; woken = p.1.1.1 })
     (λ _. refl)

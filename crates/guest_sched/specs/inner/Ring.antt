@@ -1,12 +1,12 @@
 -- The ready threads, from the circle in which they are kept.
 use Rattle.std.specs.Prelude.{map}
-use Rattle.guest_sched.specs.Line.{Line}
-use Rattle.guest_sched.specs.declared.schedule.Schedule.TheInside.{Inside}
+use Rattle.guest_sched.specs.RunQueue.{RunQueue}
+use Rattle.guest_sched.specs.declared.run_queue.RunQueue.TheInside.{Inside}
 
-abbrev pub line_of : Inside → Line
-line_of s = record {
+abbrev pub run_queue_of : Inside → RunQueue
+run_queue_of s = record {
   ready = map (λ r. r.thread) s.ready.items;
-  left = s.left;
+  steps_left = s.steps_left;
   quantum = s.quantum;
   generator = s.generator;
 }

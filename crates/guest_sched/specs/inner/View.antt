@@ -1,7 +1,7 @@
 -- A machine as contracts see it, from its fields.
-use Rattle.guest_sched.specs.Seen.{Seen}
-use Rattle.guest_sched.specs.inner.Sound.{whole_of}
+use Rattle.guest_sched.specs.Machine.{Machine}
+use Rattle.guest_sched.specs.inner.Sound.{engine_of}
 use Rattle.guest_sched.specs.declared.machine.Machine.TheInside.{Inside}
 
-abbrev pub seen_of : Inside → Seen
-seen_of m = record { whole = whole_of m.engine; given = m.given; wait = m.wait; woken = m.woken }
+abbrev pub machine_of : Inside → Machine
+machine_of m = record { engine = engine_of m.engine; given = m.given; wait = m.wait; woken = m.woken }

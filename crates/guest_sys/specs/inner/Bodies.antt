@@ -1,11 +1,11 @@
 -- What the body of a row gives, and what its parts find.
 use Rattle.std.specs.Prelude.{◌≡◌, ℕ, ◌*◌, true, false, min, List, map, Option, Some, None, Result, Ok, Err}
 use Rattle.guest_mem.specs.Memory.{Memory, may, byte_at}
-use Rattle.guest_sys.specs.Vectors.{each_allowed, pairs_read, spans, total}
+use Rattle.guest_sys.specs.Vectors.{each_allowed, iovecs_read, iovecs, total}
 use Rattle.guest_sys.specs.declared.effect.Effect.{Effect}
 use Rattle.guest_sys.specs.declared.effect.SysEnd.{SysEnd}
 use Rattle.guest_sys.specs.declared.effect.SysEnd.TheVariants.{Unsupported, OutOfMemory}
-use Rattle.guest_sys.specs.declared.vectors.Listed.{Listed}
+use Rattle.guest_sys.specs.declared.vectors.IovecList.{IovecList}
 
 -- What a body answers and leaves is the row's; or it found no memory where the row takes some, and all is as before.
 abbrev pub Gives : {S : Type 0} → Type 0 → Option (Effect × S) → ℕ → S → Result Effect SysEnd → S → Type 0
@@ -14,12 +14,12 @@ Gives takes row n old (Err (Unsupported m)) new = (row ≡ None) × (m ≡ n) ×
 Gives takes row n old (Err (OutOfMemory _)) new = takes × (new ≡ old)
 
 -- the pairs that are read, and how many bytes they move; or one of them isn't readable
-abbrev pub IsListed : ℕ → Memory → ℕ → ℕ → Option Listed → Type 0
-IsListed limit m iov count None = may m 1 iov (8 * pairs_read limit m iov count) ≡ false
-IsListed limit m iov count (Some listed) =
-    (may m 1 iov (8 * pairs_read limit m iov count) ≡ true)
-    × (listed.spans.items ≡ spans m iov (pairs_read limit m iov count))
-    × (listed.count ≡ min (total (spans m iov (pairs_read limit m iov count))) limit)
+abbrev pub IsIovecList : ℕ → Memory → ℕ → ℕ → Option IovecList → Type 0
+IsIovecList limit m iov count None = may m 1 iov (8 * iovecs_read limit m iov count) ≡ false
+IsIovecList limit m iov count (Some listed) =
+    (may m 1 iov (8 * iovecs_read limit m iov count) ≡ true)
+    × (listed.iovecs.items ≡ iovecs m iov (iovecs_read limit m iov count))
+    × (listed.count ≡ min (total (iovecs m iov (iovecs_read limit m iov count))) limit)
 
 -- the bytes at these addresses; or one of them isn't readable
 abbrev pub Gathers : Memory → List ℕ → Option (List ℕ) → Type 0

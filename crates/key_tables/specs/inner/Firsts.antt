@@ -6,7 +6,7 @@ use Rattle.std.specs.declared.cmp.Ordering.{Ordering}
 
 -- Among so many keys, the first key of the text has this number, or it is another key and the number is kept elsewhere.
 pub record IsFound (firsts : List ℕ) (count text : ℕ) (other : Option ℕ) (number : ℕ) : Type 0 where
-  pub known : text < length firsts
+  pub within : text < length firsts
   pub there : slice_index_or firsts text 0 < count
   pub by : (slice_index_or firsts text 0 ≡ number) ⊎ (other ≡ Some number)
 

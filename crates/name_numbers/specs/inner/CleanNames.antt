@@ -5,8 +5,8 @@ use Rattle.name_numbers.specs.declared.text_place.TextPlace.{TextPlace}
 use Rattle.name_numbers.specs.Texts.{text_at}
 
 -- a byte that isn't printable becomes a question mark
-abbrev pub printed : ℕ → ℕ
-printed byte = if is_printable byte then byte else 0x3f
+abbrev pub printed_byte : ℕ → ℕ
+printed_byte byte = if is_printable byte then byte else 0x3f
 
 -- the cleaned form has other bytes than these: the name is empty, or has a space at an end
 abbrev pub is_changed : List ℕ → Bool
@@ -20,7 +20,7 @@ IsWithin part place = (part.start ≤ place.start) × (place.end ≤ part.end)
 
 -- the bytes begin with the part of the file, each byte printed
 abbrev pub IsPrinted : List ℕ → TextPlace → List ℕ → Type 0
-IsPrinted file part bytes = take (part.end - part.start) bytes ≡ map printed (text_at file part)
+IsPrinted file part bytes = take (part.end - part.start) bytes ≡ map printed_byte (text_at file part)
 
 -- others come behind
 abbrev pub Grows : List ℕ → List ℕ → Type 0

@@ -4,7 +4,7 @@ use Rattle.std.specs.IoError.{error_kind}
 use Rattle.std.specs.declared.alloc.Global.{Global}
 use Rattle.std.specs.declared.io.Error.{Error}
 use Rattle.std.specs.declared.io.ErrorKind.TheVariants as kind
-use Rattle.outside.specs.Calls.{Disk, GoesOn, IsRefused, NotOpened, OpenFile, Stays, said}
+use Rattle.outside.specs.Calls.{Disk, GoesOn, IsRefused, NotOpened, OpenFile, Stays, stated_length}
 use Rattle.outside.specs.Files.{SameBut, file, with_file}
 use Rattle.outside.specs.declared.folder.LoadError.{LoadError}
 use Rattle.outside.specs.declared.folder.LoadError.TheVariants as load
@@ -16,7 +16,7 @@ use Rattle.outside.specs.declared.sink.WriteError.TheVariants as write
 -- the next bytes of the file went to the end of those that were read: none only at its end
 abbrev pub IsPiece : OpenFile → OpenFile → List ℕ → List ℕ → Result ℕ Error → Disk → Disk → Type 0
 IsPiece old new read more (Ok count) before now =
-    (read ++ old.left ≡ more ++ new.left) × (count ≡ 0 → new.left ≡ [])
+    (read ++ old.rest ≡ more ++ new.rest) × (count ≡ 0 → new.rest ≡ [])
 IsPiece old new read more (Err error) before now = IsRefused error before now
 
 -- the front of the bytes that were left, by one longer than the limit where they are
@@ -27,7 +27,7 @@ IsFront left limit (Err error) before now = IsRefused error before now
 -- the length that is said of the name's file, and its front, where that length is within the limit
 abbrev pub IsFrontOf : List ℕ → ℕ → Result (ℕ × Vec ℕ Global) Error → Disk → Disk → Type 0
 IsFrontOf name limit (Ok front) before now = (bytes : List ℕ) × (file before.files name ≡ Some bytes)
-    × (front.0 ≡ said before bytes) × (front.0 ≤ limit → front.1.items ≡ take (limit + 1) bytes)
+    × (front.0 ≡ stated_length before bytes) × (front.0 ≤ limit → front.1.items ≡ take (limit + 1) bytes)
 IsFrontOf name limit (Err error) before now = NotOpened (file before.files name) error before now
 
 -- all of the bytes were written to the file of the name
@@ -55,7 +55,7 @@ IsWriteError error (write.OutOfMemory _) = error_kind error ≡ kind.OutOfMemory
 -- So much of an open file has been read, and the rest is left.
 pub record HasRead (left read : List ℕ) (opened : OpenFile) (before now : Disk) : Type 0 where
   pub stays : Stays before now
-  pub parts : left ≡ read ++ opened.left
+  pub parts : left ≡ read ++ opened.rest
 
 -- So much was written to the file of the name, and it is all that is there.
 pub record HasWritten (name written : List ℕ) (opened : OpenFile) (before now : Disk) : Type 0 where

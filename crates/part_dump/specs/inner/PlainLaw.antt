@@ -6,7 +6,7 @@ use Rattle.sym_map.specs.SymbolMap.{SymbolMap}
 use Rattle.cg_format.specs.Part.{AreKnown}
 use Rattle.part_dump.specs.Calls.{Call, Readies, Sees, Writes}
 use Rattle.part_dump.specs.Plain.{Stateless, plain}
-use Rattle.part_dump.specs.Watched.{Fits, FitAll, Watched}
+use Rattle.part_dump.specs.Watched.{Fits, FitAll, AreWatched}
 use Rattle.part_dump.specs.Watching.{Can, KeepsRoom, after_calls}
 
 -- the last call fits all others
@@ -19,7 +19,7 @@ last_fits syms earlier (c ∷ calls) call fit =
     subst P (append_assoc earlier (c ∷ []) calls) (last_fits syms (earlier ++ c ∷ []) calls call fit.1)
 
 pub plain_lasts : (syms : SymbolMap) (first : Stateless) (calls : List Call) (call : Call) → Unit {0}
-    → Watched syms (calls ++ call ∷ [])
+    → AreWatched syms (calls ++ call ∷ [])
     → Can (λ w event cost wait woken syms. Unit {0}) (λ w head rows syms. AreKnown syms rows) syms
     (after_calls plain syms first calls)
     call

@@ -3,12 +3,12 @@ use Rattle.std.specs.Prelude.{ℕ, List, [], ◌∷◌, ◌++◌, codes}
 use Rattle.std.specs.List.{flat_map}
 use Rattle.prog_make.specs.declared.function_part.FunctionPart.{FunctionPart}
 
-abbrev pub ended : List ℕ → List ℕ
-ended text = text ++ 0 ∷ []
+abbrev pub with_zero : List ℕ → List ℕ
+with_zero text = text ++ 0 ∷ []
 
 -- the names of functions
 abbrev pub name_strings : List FunctionPart → List ℕ
-name_strings functions = 0 ∷ flat_map (λ f. ended f.name) functions
+name_strings functions = 0 ∷ flat_map (λ f. with_zero f.name) functions
 
 -- where the names of the sections of lines, symbols, symbols' names, sections' names, code and data begin among these
 abbrev pub lines_name : ℕ
@@ -35,6 +35,6 @@ section_strings_len = 51
 
 -- the names of sections
 unfoldable pub section_strings : List ℕ
-section_strings = 0 ∷ (ended (codes ".debug_line") ++
-    (ended (codes ".symtab") ++ (ended (codes ".strtab") ++
-    (ended (codes ".shstrtab") ++ (ended (codes ".text") ++ ended (codes ".data"))))))
+section_strings = 0 ∷ (with_zero (codes ".debug_line") ++
+    (with_zero (codes ".symtab") ++ (with_zero (codes ".strtab") ++
+    (with_zero (codes ".shstrtab") ++ (with_zero (codes ".text") ++ with_zero (codes ".data"))))))

@@ -3,7 +3,7 @@ use Rattle.std.specs.Prelude.{ℕ, ◌+◌, List, ◌++◌, length}
 use Rattle.prog_make.specs.declared.section.SectionHeader.{SectionHeader}
 use Rattle.prog_make.specs.declared.section.TableLengths.{TableLengths}
 use Rattle.prog_make.specs.Parts.{Parts, content_len}
-use Rattle.prog_make.specs.Programs.{placed, content_offset}
+use Rattle.prog_make.specs.Programs.{file_segments, content_offset}
 use Rattle.prog_make.specs.inner.Strings.{name_strings, section_strings, section_strings_len}
 use Rattle.prog_make.specs.inner.Sections.{section_headers, sections_bytes}
 use Rattle.prog_make.specs.inner.Symbols.{symbol_entries, symbols_bytes}
@@ -26,7 +26,7 @@ headers_offset parts = tables_offset parts + (table_lengths parts).lines + (tabl
     (table_lengths parts).strings + section_strings_len
 
 abbrev pub headers_of : Parts → List SectionHeader
-headers_of parts = section_headers (tables_offset parts) (table_lengths parts) (placed parts.segments)
+headers_of parts = section_headers (tables_offset parts) (table_lengths parts) (file_segments parts.segments)
 
 abbrev pub tail_of : Parts → List ℕ
 tail_of parts =

@@ -14,12 +14,12 @@ use Rattle.arc_costs.specs.Lines.{is_some_line, line_sum, place_of as row_place}
 use Rattle.event_costs.specs.Order.{arc_order, place_order, same_place}
 use Rattle.arc_costs.specs.Rows.{ArcRow, LineRow}
 use Rattle.shadow_stack.specs.Arenas.{AreApart, frames, LiesIn}
-use Rattle.shadow_stack.specs.Frames.{pushed, restarted, stack, StartWithin}
+use Rattle.shadow_stack.specs.Frames.{pushed_activation, restarted_frames, stack, StartWithin}
 use Rattle.shadow_stack.specs.Kinds.{is_root}
 use Rattle.shadow_stack.specs.Stacks.{most_frames}
 use Rattle.shadow_stack.specs.declared.arena.Node.{Node}
 use Rattle.shadow_stack.specs.declared.frame.Frame.{Frame}
-use Rattle.recorder.specs.Accounts.{Account, Kept}
+use Rattle.recorder.specs.Accounts.{Account, Ledger}
 use Rattle.recorder.specs.Notes.{open_sum}
 use Rattle.recorder.specs.Sums.{entered_by, pushes}
 use Rattle.recorder.specs.declared.book.Book.{Book}
@@ -34,8 +34,8 @@ account_in slots b = record {
   had_event = b.had_event;
 }
 
-abbrev pub kept_of : List (Option Node) → Book → Kept
-kept_of slots b = record { account = account_in slots b; line_room = b.rows.line_room; arc_room = b.rows.arc_room }
+abbrev pub ledger_of : List (Option Node) → Book → Ledger
+ledger_of slots b = record { account = account_in slots b; line_room = b.rows.line_room; arc_room = b.rows.arc_room }
 
 -- a frame that was entered knows by which arc
 pub record IsEntered (f : Frame) : Type 0 where
@@ -64,7 +64,7 @@ pub record IsSound (a : Account) : Type 0 where
   pub within : (kind : ℕ) (arc : ArcKey) → arc_sum kind arc a.arcs + open_sum kind a.total arc a.frames < 2 ^ 64
   pub counted : (arc : ArcKey) → call_sum arc a.arcs < 2 ^ 64
 
-pub record IsKept (slots : List (Option Node)) (b : Book) : Type 0 where
+pub record IsSoundBook (slots : List (Option Node)) (b : Book) : Type 0 where
   pub lies : LiesIn slots b.head
   pub sound : IsSound (account_in slots b)
 
@@ -77,12 +77,12 @@ pub record Adds (syms : SymbolMap) (e : Event) (cost : List ℕ) (old new : Acco
   pub arcs : (kind : ℕ) (arc : ArcKey) → arc_sum kind arc new.arcs + open_sum kind new.total arc new.frames
       ≡ arc_sum kind arc old.arcs + open_sum kind old.total arc old.frames
       + slice_index cost kind * entered_by arc (stack old.frames)
-  pub calls : (arc : ArcKey) → call_sum arc new.arcs ≡ call_sum arc old.arcs + pushes arc (pushed syms e old.frames)
+  pub calls : (arc : ArcKey) → call_sum arc new.arcs ≡ call_sum arc old.arcs + pushes arc (pushed_activation syms e old.frames)
 
 -- The account after its open frames have given their cost so far and start anew.
 pub record Gives (old new : Account) : Type 0 where
   pub thread : new.thread ≡ old.thread
-  pub frames : new.frames ≡ restarted old.total old.frames
+  pub frames : new.frames ≡ restarted_frames old.total old.frames
   pub total : new.total ≡ old.total
   pub lines : new.lines ≡ old.lines
   pub cleared : cleared_arcs new.arcs ≡ cleared_arcs old.arcs
@@ -107,8 +107,8 @@ entered_in b = b.head.depth - 1
 
 -- What holds of the books of a recorder: each head lies in the arena, no two chains have a key in common, each thread
 -- has one book, and the count of live frames is right and within its bound.
-pub record AreKept (slots : List (Option Node)) (started : List ThreadNo) (books : List Book) (count : ℕ) : Type 0 where
-  pub each : All (IsKept slots) books
+pub record AreSoundBooks (slots : List (Option Node)) (started : List ThreadNo) (books : List Book) (count : ℕ) : Type 0 where
+  pub each : All (IsSoundBook slots) books
   pub apart : (i j : ℕ) (d : Book) → i < length books → j < length books → i ≢ j
       → AreApart slots (get_or books i d).head (get_or books j d).head
   pub threads : started ≡ map (λ b. b.thread) books

@@ -8,8 +8,8 @@ use Rattle.arc_costs.specs.Contents.{Contents}
 use Rattle.event_costs.specs.Order.{same_arc}
 use Rattle.arc_costs.specs.Rows.{ArcRow}
 use Rattle.arc_costs.proofs.RowLemmas.{sum_at-append}
-use Rattle.recorder.specs.Notes.{told_row, told_rows}
-use Rattle.recorder.specs.inner.Tellers.{CanTell, count_pushes, IsKeyed, RowsTold, Tells}
+use Rattle.recorder.specs.Notes.{row_of_telling, rows_of_tellings}
+use Rattle.recorder.specs.inner.Tellers.{CanTell, count_pushes, IsKeyed, RowsAfterTellings, Tells}
 use Rattle.recorder.specs.declared.teller.Teller.{Teller}
 
 pub arc_sum-append : (kind : ℕ) (arc : ArcKey) (rs qs : List ArcRow)
@@ -19,9 +19,9 @@ arc_sum-append kind arc rs qs = sum_at-append arc_of same_arc (λ (r : ArcRow). 
 pub call_sum-append : (arc : ArcKey) (rs qs : List ArcRow) → call_sum arc (rs ++ qs) ≡ call_sum arc rs + call_sum arc qs
 call_sum-append arc rs qs = sum_at-append arc_of same_arc (λ (r : ArcRow). r.calls) arc rs qs
 
-pub told_rows-append : (ts us : List Telling) → told_rows (ts ++ us) ≡ told_rows ts ++ told_rows us
-told_rows-append [] us = refl
-told_rows-append (t ∷ ts) us = ap (λ (rs : List ArcRow). told_row t ∷ rs) (told_rows-append ts us)
+pub rows_of_tellings-append : (ts us : List Telling) → rows_of_tellings (ts ++ us) ≡ rows_of_tellings ts ++ rows_of_tellings us
+rows_of_tellings-append [] us = refl
+rows_of_tellings-append (t ∷ ts) us = ap (λ (rs : List ArcRow). row_of_telling t ∷ rs) (rows_of_tellings-append ts us)
 
 pub count_pushes-append : (ts us : List Telling) → count_pushes (ts ++ us) ≡ count_pushes ts + count_pushes us
 count_pushes-append [] us = omega arith
@@ -33,22 +33,22 @@ keyed_front : (arcs : List ArcRow) (ts us : List Telling) → AllByRecursion (Is
 keyed_front arcs [] us all = tt
 keyed_front arcs (t ∷ ts) us all = (all.0, keyed_front arcs ts us all.1)
 
-pub told_costs-append : (kind : ℕ) (arc : ArcKey) (ts us : List Telling)
-    → arc_sum kind arc (told_rows (ts ++ us)) ≡ arc_sum kind arc (told_rows ts) + arc_sum kind arc (told_rows us)
-told_costs-append kind arc ts us = ap (arc_sum kind arc) (told_rows-append ts us)
-    ∙ arc_sum-append kind arc (told_rows ts) (told_rows us)
+pub telling_costs-append : (kind : ℕ) (arc : ArcKey) (ts us : List Telling)
+    → arc_sum kind arc (rows_of_tellings (ts ++ us)) ≡ arc_sum kind arc (rows_of_tellings ts) + arc_sum kind arc (rows_of_tellings us)
+telling_costs-append kind arc ts us = ap (arc_sum kind arc) (rows_of_tellings-append ts us)
+    ∙ arc_sum-append kind arc (rows_of_tellings ts) (rows_of_tellings us)
 
-pub told_calls-append : (arc : ArcKey) (ts us : List Telling)
-    → call_sum arc (told_rows (ts ++ us)) ≡ call_sum arc (told_rows ts) + call_sum arc (told_rows us)
-told_calls-append arc ts us = ap (call_sum arc) (told_rows-append ts us)
-    ∙ call_sum-append arc (told_rows ts) (told_rows us)
+pub telling_calls-append : (arc : ArcKey) (ts us : List Telling)
+    → call_sum arc (rows_of_tellings (ts ++ us)) ≡ call_sum arc (rows_of_tellings ts) + call_sum arc (rows_of_tellings us)
+telling_calls-append arc ts us = ap (call_sum arc) (rows_of_tellings-append ts us)
+    ∙ call_sum-append arc (rows_of_tellings ts) (rows_of_tellings us)
 
 pub takes_front : (rows : Contents) (ts us : List Telling) → CanTell rows (ts ++ us) → CanTell rows ts
 takes_front rows ts us can = record {
   room = let more = count_pushes-append ts us in omega (arith, more, can.room);
   keyed = keyed_front rows.arcs ts us can.keyed;
-  costs = λ kind arc. let more = told_costs-append kind arc ts us in omega (arith, more, can.costs kind arc);
-  calls = λ arc. let more = told_calls-append arc ts us in omega (arith, more, can.calls arc);
+  costs = λ kind arc. let more = telling_costs-append kind arc ts us in omega (arith, more, can.costs kind arc);
+  calls = λ arc. let more = telling_calls-append arc ts us in omega (arith, more, can.calls arc);
 }
 
 still_keyed : (old new : List ArcRow) (added : ArcKey → Bool) → ((arc : ArcKey)
@@ -60,13 +60,13 @@ still_keyed old new added keys (Closed arc cost ∷ ts) all =
     (keys arc ∙ ap (λ b. b || added arc) all.0, still_keyed old new added keys ts all.1)
 
 pub takes_rest : (old new : Contents) (t : Telling) (ts : List Telling) → CanTell old (t ∷ ts)
-    → RowsTold old (t ∷ []) new → CanTell new ts
+    → RowsAfterTellings old (t ∷ []) new → CanTell new ts
 takes_rest old new t ts can told = record {
   room = let more = count_pushes-append (t ∷ []) ts in omega (arith, more, can.room, told.arc_room);
-  keyed = still_keyed old.arcs new.arcs (λ arc. has_arc arc (told_rows (t ∷ []))) told.keys ts can.keyed.1;
-  costs = λ kind arc. let more = told_costs-append kind arc (t ∷ []) ts in
+  keyed = still_keyed old.arcs new.arcs (λ arc. has_arc arc (rows_of_tellings (t ∷ []))) told.keys ts can.keyed.1;
+  costs = λ kind arc. let more = telling_costs-append kind arc (t ∷ []) ts in
       omega (arith, more, can.costs kind arc, told.costs kind arc);
-  calls = λ arc. let more = told_calls-append arc (t ∷ []) ts in omega (arith, more, can.calls arc, told.calls arc);
+  calls = λ arc. let more = telling_calls-append arc (t ∷ []) ts in omega (arith, more, can.calls arc, told.calls arc);
 }
 
 pub teller_takes_front : (teller : Teller) (ts us : List Telling) → CanTell teller.rows.now (ts ++ us)

@@ -11,7 +11,7 @@ use Rattle.arc_costs.specs.Rows.{ArcRow}
 use Rattle.event_costs.specs.declared.event.Event.{Event}
 use Rattle.shadow_stack.specs.declared.frame.Frame.{Frame}
 use Rattle.event_costs.specs.FuncSet.{is_among}
-use Rattle.recorder.specs.Notes.{told_rows}
+use Rattle.recorder.specs.Notes.{rows_of_tellings}
 use Rattle.recorder.specs.declared.teller.Teller.{Teller}
 
 -- how many arcs are pushed
@@ -30,17 +30,17 @@ IsKeyed arcs (Closed arc cost) = has_arc arc arcs ≡ true
 pub record CanTell (rows : Contents) (ts : List Telling) : Type 0 where
   pub room : count_pushes ts ≤ rows.arc_room
   pub keyed : AllByRecursion (IsKeyed rows.arcs) ts
-  pub costs : (kind : ℕ) (arc : ArcKey) → arc_sum kind arc rows.arcs + arc_sum kind arc (told_rows ts) < 2 ^ 64
-  pub calls : (arc : ArcKey) → call_sum arc rows.arcs + call_sum arc (told_rows ts) < 2 ^ 64
+  pub costs : (kind : ℕ) (arc : ArcKey) → arc_sum kind arc rows.arcs + arc_sum kind arc (rows_of_tellings ts) < 2 ^ 64
+  pub calls : (arc : ArcKey) → call_sum arc rows.arcs + call_sum arc (rows_of_tellings ts) < 2 ^ 64
 
 -- The tables after these tellings.
-pub record RowsTold (old : Contents) (ts : List Telling) (new : Contents) : Type 0 where
-  pub arcs : new.arcs ≡ add_arcs old.arcs (told_rows ts)
+pub record RowsAfterTellings (old : Contents) (ts : List Telling) (new : Contents) : Type 0 where
+  pub arcs : new.arcs ≡ add_arcs old.arcs (rows_of_tellings ts)
   pub lines : new.lines ≡ old.lines
   pub costs : (kind : ℕ) (arc : ArcKey) → arc_sum kind arc new.arcs
-      ≡ arc_sum kind arc old.arcs + arc_sum kind arc (told_rows ts)
-  pub calls : (arc : ArcKey) → call_sum arc new.arcs ≡ call_sum arc old.arcs + call_sum arc (told_rows ts)
-  pub keys : (arc : ArcKey) → has_arc arc new.arcs ≡ has_arc arc old.arcs || has_arc arc (told_rows ts)
+      ≡ arc_sum kind arc old.arcs + arc_sum kind arc (rows_of_tellings ts)
+  pub calls : (arc : ArcKey) → call_sum arc new.arcs ≡ call_sum arc old.arcs + call_sum arc (rows_of_tellings ts)
+  pub keys : (arc : ArcKey) → has_arc arc new.arcs ≡ has_arc arc old.arcs || has_arc arc (rows_of_tellings ts)
   pub line_room : new.line_room ≡ old.line_room
   pub arc_room : old.arc_room ≤ new.arc_room + count_pushes ts
 
@@ -51,7 +51,7 @@ noted_more watched n (Closed arc cost) = record n { left = n.left || is_among wa
 
 pub record Tells (old : Teller) (t : Telling) (new : Teller) : Type 0 where
   pub loan : new.rows.ghost_name ≡ old.rows.ghost_name
-  pub rows : RowsTold old.rows.now (t ∷ []) new.rows.now
+  pub rows : RowsAfterTellings old.rows.now (t ∷ []) new.rows.now
   pub watched : new.watched.now ≡ old.watched.now
   pub noted : new.noted ≡ noted_more old.watched.now old.noted t
 
@@ -62,5 +62,5 @@ is_among_last funcs (f ∷ []) = is_among funcs f.func
 is_among_last funcs (f ∷ (g ∷ fs)) = is_among_last funcs (g ∷ fs)
 
 -- the thread ends, and the function of its root is watched
-abbrev pub root_is_left : List FuncId → Event → List Frame → Bool
-root_is_left watched e frames = e.ends && is_among_last watched frames
+abbrev pub root_leaves : List FuncId → Event → List Frame → Bool
+root_leaves watched e frames = e.ends && is_among_last watched frames

@@ -9,7 +9,7 @@ use Rattle.sym_map.specs.SymbolMap.{SymbolMap}
 use Rattle.cg_format.specs.declared.head.PartHead.{PartHead}
 use Rattle.part_dump.specs.Calls.{Call, Readies, Sees, Writes}
 use Rattle.part_dump.specs.Plain.{plain}
-use Rattle.part_dump.specs.Watched.{Watched}
+use Rattle.part_dump.specs.Watched.{AreWatched}
 use Rattle.part_dump.specs.Watching.{Can, KeepsRoom, Meaning, after_call, after_calls}
 use Rattle.part_dump.specs.inner.PlainLaw.{plain_lasts}
 use Rattle.wait_report.specs.Keeping as waits
@@ -18,7 +18,7 @@ use Rattle.ctx_costs.specs.inner.WatchLaw as contexts_room
 use Rattle.ctx_rows.specs.Watching as contexts
 use Rattle.ctx_rows.proofs.LastLemmas as contexts_law
 use Rattle.addr_costs.specs.inner.TextsLaw.{texts_last}
-use Rattle.addr_rows.specs.Translated.{translated}
+use Rattle.addr_rows.specs.Translated.{translation}
 use Rattle.run_watches.specs.Watching.{CanSee, CanWrite, HasRoom, IsFresh, watching}
 use Rattle.run_watches.specs.declared.run_watch.RunWatch.{RunWatch}
 use Rattle.run_watches.specs.declared.run_watch.RunWatch.TheVariants.{Addresses, Contexts, Nobody, Waits}
@@ -39,7 +39,7 @@ by_calls : {W : Type 0} (meaning : Meaning W) (kind : W → RunWatch)
     → watching.after_part (kind w) head rows m ≡ kind (meaning.after_part w head rows m))
     → (m : SymbolMap) (w : W) (c : Call) → after_call watching m (kind w) c ≡ kind (after_call meaning m w c)
 by_calls meaning kind ready seen part m w (Readies thread pc) = ready m w thread pc
-by_calls meaning kind ready seen part m w (Sees x) = seen m w x.seen.event x.seen.cost x.wait x.woken
+by_calls meaning kind ready seen part m w (Sees x) = seen m w x.on_stack.event x.on_stack.cost x.wait x.woken
 by_calls meaning kind ready seen part m w (Writes head rows) = part m w head rows
 
 pub nobody_told : IsTold plain Nobody
@@ -60,9 +60,9 @@ contexts_told = record {
   text = λ w head rows m. refl;
 }
 
-pub addresses_told : IsTold translated Addresses
+pub addresses_told : IsTold translation Addresses
 addresses_told = record {
-  call = by_calls translated Addresses (λ m w t pc. refl) (λ m w e c wait woken. refl) (λ m w head rows. refl);
+  call = by_calls translation Addresses (λ m w t pc. refl) (λ m w e c wait woken. refl) (λ m w head rows. refl);
   text = λ w head rows m. refl;
 }
 
@@ -83,11 +83,11 @@ widened : {W : Type 0} {see : W → Event → List ℕ → Option ℕ → List T
     → CanWrite (kind w) head rows m)
     → (m : SymbolMap) (w : W) (c : Call) → Can see write m w c → Can CanSee CanWrite m (kind w) c
 widened kind sees writes m w (Readies thread pc) can = tt
-widened kind sees writes m w (Sees x) can = sees w x.seen.event x.seen.cost x.wait x.woken m can
+widened kind sees writes m w (Sees x) can = sees w x.on_stack.event x.on_stack.cost x.wait x.woken m can
 widened kind sees writes m w (Writes head rows) can = writes w head rows m can
 
 pub watching_lasts : (m : SymbolMap) (first : RunWatch) (calls : List Call) (call : Call) → IsFresh first m
-    → Watched m (calls ++ call ∷ [])
+    → AreWatched m (calls ++ call ∷ [])
     → Can CanSee CanWrite m (after_calls watching m first calls) call
 watching_lasts m (Nobody w) calls call fresh watched =
     subst (λ v. Can CanSee CanWrite m v call) (sym (after_all nobody_told m w calls))
@@ -104,7 +104,7 @@ watching_lasts m (Contexts w) calls call fresh watched =
 watching_lasts m (Addresses w) calls call fresh watched =
     subst (λ v. Can CanSee CanWrite m v call) (sym (after_all addresses_told m w calls))
     (widened Addresses (λ w e cost wait woken m can. can) (λ w head rows m can. can) m
-    (after_calls translated m w calls) call (texts_last m w calls call fresh watched))
+    (after_calls translation m w calls) call (texts_last m w calls call fresh watched))
 
 made_ready : (w : RunWatch) (thread : ThreadNo) (pc : ℕ) (m : SymbolMap)
     → HasRoom (watching.after_ready w thread pc m) thread

@@ -1,7 +1,7 @@
 -- Where what is kept stands.
 use Rattle.std.specs.Prelude.{◌≡◌, ℕ, ◌≤◌, ◌==◌, Bool, true, false, if◌then◌else◌, List, [], ◌∷◌, Some, slice_get}
 use Rattle.rv_step.specs.Place.{place_of}
-use Rattle.rv_step.specs.declared.found.Found.{Found}
+use Rattle.rv_step.specs.declared.kept_instr.KeptInstr.{KeptInstr}
 
 -- whether one of these addresses has this place
 abbrev pub is_noted : ℕ → List ℕ → Bool
@@ -10,7 +10,7 @@ is_noted place (pc ∷ pcs) = if place_of pc == place then true else is_noted pl
 
 -- each place that holds what an address of its own finds is of one of these addresses, and what it holds stands from
 -- one address on, and begins at another at the latest
-abbrev pub AreNoted : List ℕ → ℕ → ℕ → List Found → Type 0
+abbrev pub AreNoted : List ℕ → ℕ → ℕ → List KeptInstr → Type 0
 AreNoted pcs first last fs =
-    (place : ℕ) (f : Found) → slice_get fs place ≡ Some f → place_of f.pc ≡ place
+    (place : ℕ) (f : KeptInstr) → slice_get fs place ≡ Some f → place_of f.pc ≡ place
     → (is_noted place pcs ≡ true) × (first ≤ f.pc) × (f.pc ≤ last)

@@ -2,7 +2,7 @@
 use Rattle.std.specs.Prelude.{◌≡◌, ℕ, ◌≤◌, Bool, true, false, List, length}
 use Rattle.event_costs.specs.declared.event.Touch.{Touch}
 use Rattle.event_costs.specs.declared.event.Touch.TheVariants as touch
-use Rattle.guest_mem.specs.Memory.{Memory, stored}
+use Rattle.guest_mem.specs.Memory.{Memory, store_at}
 use Rattle.rv_decode.specs.declared.instr.Op.{Op}
 use Rattle.rv_decode.specs.declared.instr.Op.TheVariants.{SB, SH, SW, SC, AMOSWAP, AMOADD, AMOXOR, AMOAND, AMOOR}
 use Rattle.rv_decode.specs.declared.instr.Op.TheVariants.{AMOMIN, AMOMAX, AMOMINU, AMOMAXU}
@@ -30,7 +30,7 @@ may_store _ = false
 pub record IsStoredAt (a : ℕ) (old new : Memory) : Type 0 where
   pub bytes : List ℕ
   pub few : length bytes ≤ 4
-  pub stores : new ≡ stored old a bytes
+  pub stores : new ≡ store_at old a bytes
 
 -- where data was referred to, if it was, at most four bytes were stored
 abbrev pub IsStoredIn : Touch → Memory → Memory → Type 0

@@ -6,13 +6,13 @@ use Rattle.sym_map.specs.declared.range.Range.{Range}
 use Rattle.sym_map.specs.Ranges.{symbol_of}
 
 -- the function whose symbol has the range's start as its value
-abbrev pub entered : Range → Option FuncId
-entered range = option_and_then (λ symbol. if symbol.value == range.start then Some symbol.func else None)
-    (symbol_of range.seen)
+abbrev pub entered_func : Range → Option FuncId
+entered_func range = option_and_then (λ symbol. if symbol.value == range.start then Some symbol.func else None)
+    (symbol_of range.cover)
 
 -- that function has this number
 abbrev pub enters : ℕ → Range → Bool
-enters func range = option_map_or (λ entered. entered.0 == func) (entered range) false
+enters func range = option_map_or (λ f. f.0 == func) (entered_func range) false
 
 -- the start of the first range at which a function is entered
 abbrev pub start_of_first : ℕ → List Range → Option ℕ

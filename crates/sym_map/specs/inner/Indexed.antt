@@ -2,7 +2,7 @@
 use Rattle.std.specs.Prelude.{◌≡◌, ℕ, ◌+◌, ◌*◌, ◌<◌, ◌^◌, List, length, nat_lt, slice_index_or, if◌then◌else◌}
 use Rattle.event_costs.specs.Keys.{Place}
 use Rattle.sym_map.specs.declared.place_index.Spot.{Spot}
-use Rattle.sym_map.specs.AddressMap.{told_by_address}
+use Rattle.sym_map.specs.AddressMap.{lines_by_address}
 use Rattle.sym_map.specs.Ranges.{AddressRanges, here_at}
 use Rattle.sym_map.specs.SymbolMap.{place_in}
 
@@ -24,10 +24,10 @@ pub record AreIndexed (ranges : AddressRanges) (unknown : Place) (first : ℕ) (
       → IsSpot ranges unknown (first + 4 * k) (slice_index_or spots k d)
 
 -- the same, where each address is a line of its own at the first so many of them
-abbrev pub told_up_to : ℕ → ℕ → AddressRanges → AddressRanges
-told_up_to count k ranges = if nat_lt k count then told_by_address ranges else ranges
+abbrev pub lines_by_address_up_to : ℕ → ℕ → AddressRanges → AddressRanges
+lines_by_address_up_to count k ranges = if nat_lt k count then lines_by_address ranges else ranges
 
-pub record AreTold (ranges : AddressRanges) (unknown : Place) (first count : ℕ) (spots : List Spot) : Type 0 where
+pub record AreByAddress (ranges : AddressRanges) (unknown : Place) (first count : ℕ) (spots : List Spot) : Type 0 where
   pub within : first + 4 * length spots < 2 ^ 32
   pub at : (k : ℕ) (d : Spot) → k < length spots
-      → IsSpot (told_up_to count k ranges) unknown (first + 4 * k) (slice_index_or spots k d)
+      → IsSpot (lines_by_address_up_to count k ranges) unknown (first + 4 * k) (slice_index_or spots k d)

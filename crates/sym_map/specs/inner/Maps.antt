@@ -30,6 +30,6 @@ pub record IsMap (functions : List Function) (files : List (List ℕ)) (entries 
   pub ranges_rise : AllRise ranges
   pub symbol_limit : All (λ range. range.start < 2 ^ 32) ranges.symbols
   pub line_limit : All (λ range. range.start < 2 ^ 32) ranges.lines
-  pub known : (address : ℕ) → address < 2 ^ 32 → IsKnown functions files (here_at ranges address)
+  pub here_known : (address : ℕ) → address < 2 ^ 32 → IsKnown functions files (here_at ranges address)
   pub unknown_func : unknown.func.0 < length functions
   pub unknown_file : unknown.file.0 < length files

@@ -3,9 +3,9 @@ use Rattle.std.specs.Prelude.{ℕ, Bool, ◌&&◌, nat_le, nat_lt, if◌then◌e
 use Rattle.std.specs.Prelude.{◌<◌, ◌^◌, slice_index, slice_range, Option, Some, None}
 use Rattle.dwarf_line.specs.declared.row.Row.{Row}
 use Rattle.dwarf_line.specs.declared.row.Sequence.{Sequence}
-use Rattle.dwarf_line.specs.LineTable.{LineTable}
+use Rattle.dwarf_line.specs.Rows.{Rows}
 use Rattle.sym_map.specs.declared.range.LineHere.{LineHere}
-use Rattle.sym_map.specs.declared.range.Said.TheVariants as said
+use Rattle.sym_map.specs.declared.range.Label.TheVariants as label
 use Rattle.sym_map.specs.declared.range.Span.{Span}
 
 -- A row, which speaks for the addresses from `start` up to, and without, `end`, but for those of which a later row of
@@ -31,7 +31,7 @@ pile rows sequence = reverse (map (span_of sequence.end) (rows_in rows sequence)
 abbrev pub piles : List Row → List Sequence → List RowSpan
 piles rows sequences = flat_map (pile rows) sequences
 
-abbrev pub row_spans : LineTable → List RowSpan
+abbrev pub row_spans : Rows → List RowSpan
 row_spans table = piles table.rows table.sequences
 
 abbrev pub covers_row : ℕ → RowSpan → Bool
@@ -43,7 +43,7 @@ row_seen [] address = None
 row_seen (span ∷ spans) address = if covers_row address span then Some span.row else row_seen spans address
 
 -- the rows of all sequences
-abbrev pub all_rows : LineTable → List Row
+abbrev pub all_rows : Rows → List Row
 all_rows table = flat_map (rows_in table.rows) table.sequences
 
 -- a row's file is one of so many, and its line has 32 bits
@@ -56,7 +56,7 @@ line_here ids row = record { file = record { 0 = slice_index ids row.file }; lin
 
 -- a row as a span of what it says, and all rows
 abbrev pub line_span : List ℕ → RowSpan → Span
-line_span ids span = record { end = span.end; start = span.start; said = said.Line (line_here ids span.row) }
+line_span ids span = record { end = span.end; start = span.start; label = label.Line (line_here ids span.row) }
 
-abbrev pub lined : List ℕ → List RowSpan → List Span
-lined ids spans = map (line_span ids) spans
+abbrev pub line_spans : List ℕ → List RowSpan → List Span
+line_spans ids spans = map (line_span ids) spans

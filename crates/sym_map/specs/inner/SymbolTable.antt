@@ -10,16 +10,16 @@ use Rattle.sym_map.specs.declared.range.Range.{Range}
 use Rattle.sym_map.specs.declared.range.SymbolHere.{SymbolHere}
 use Rattle.sym_map.specs.FunctionOrder.{by_function}
 use Rattle.sym_map.specs.inner.Functions.{key_of}
-use Rattle.sym_map.specs.inner.Naming.{named}
+use Rattle.sym_map.specs.inner.Naming.{with_name}
 use Rattle.sym_map.specs.Places.{unknown_name}
-use Rattle.sym_map.specs.Ranges.{seen_at, symbol_of}
+use Rattle.sym_map.specs.Ranges.{cover_at, symbol_of}
 use Rattle.sym_map.specs.inner.Rising.{Rise}
 use Rattle.sym_map.specs.inner.Shows.{Shows}
 use Rattle.sym_map.specs.Symbols.{candidates, symbol_at}
 
 -- the function of a symbol, by the number of its file
 abbrev pub symbol_key : Image → List Range → FileId → Symbol → Function
-symbol_key image lines unknown symbol = key_of lines unknown (named image symbol)
+symbol_key image lines unknown symbol = key_of lines unknown (with_name image symbol)
 
 -- the function of code without a symbol
 abbrev pub unknown_key : FileId → Function
@@ -42,6 +42,6 @@ pub record AreSymbolsOf (image : Image) (lines : List Range) (unknown_file : Fil
   pub values : All (λ symbol. symbol.value < 2 ^ 32) (candidates image)
   pub unknown_is : slice_get functions unknown_func.0 ≡ Some (unknown_key unknown_file)
   pub rise : Rise ranges
-  pub shown : (address : ℕ) → address < 2 ^ 32
-      → Shows (IsSymbolOf (symbol_key image lines unknown_file) functions) (symbol_of (seen_at ranges address))
+  pub shows : (address : ℕ) → address < 2 ^ 32
+      → Shows (IsSymbolOf (symbol_key image lines unknown_file) functions) (symbol_of (cover_at ranges address))
       (symbol_at image address)

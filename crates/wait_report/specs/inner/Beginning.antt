@@ -6,10 +6,10 @@ use Rattle.std.proofs.Common.{unwrap_or}
 use Rattle.std.specs.Map.{lookup}
 use Rattle.event_costs.specs.Costs.{IsWhole, no_cost}
 use Rattle.event_costs.specs.declared.numbers.ThreadNo.{ThreadNo}
-use Rattle.shadow_stack.specs.Traces.{Seen}
+use Rattle.shadow_stack.specs.Traces.{EventOnStack}
 use Rattle.part_dump.specs.Steps.{Step}
 use Rattle.part_dump.specs.Watched.{is_woken, waits}
-use Rattle.wait_report.specs.Keeping.{Kept, begins, begun_sum, flat, open_of, same_thread, spot, sum_of}
+use Rattle.wait_report.specs.Keeping.{WaitBooks, begins, begun_sum, flat, open_of, same_thread, spot, sum_of}
 use Rattle.wait_report.specs.Rows.{cost_at, ended_at, open_at, same_spot, waits_at}
 use Rattle.wait_report.specs.Waits.{cost_of}
 use Rattle.wait_report.specs.Standing.{AreOpen, IsCost, StandsFor, step}
@@ -21,7 +21,7 @@ use Rattle.wait_report.specs.inner.Lookups.{after_insert, itself, spot_tells, th
 use Rattle.wait_report.specs.inner.Passing.{are_open_same, one_more}
 use Rattle.wait_report.specs.inner.Waking.{choose, some_number, turned_number, under_if}
 
-module _ (ys : List Step) (seen : Seen) (woken : List ThreadNo) (word : ℕ) where
+module _ (ys : List Step) (seen : EventOnStack) (woken : List ThreadNo) (word : ℕ) where
   abbrev before : List Step
   before = ys ++ step seen None woken ∷ []
 
@@ -76,8 +76,8 @@ module _ (ys : List Step) (seen : Seen) (woken : List ThreadNo) (word : ℕ) whe
       by true w = refl
       by false w = refl
 
-  module _ (k : Kept) (stands : StandsFor k before) where
-    abbrev new : Kept
+  module _ (k : WaitBooks) (stands : StandsFor k before) where
+    abbrev new : WaitBooks
     new = begins t word k
 
     abbrev begun : Open

@@ -9,7 +9,7 @@ use Rattle.event_costs.specs.declared.numbers.ThreadNo.{ThreadNo}
 use Rattle.part_dump.specs.Steps.{Step, thread_of}
 use Rattle.part_dump.specs.Watched.{is_woken, waits_after}
 use Rattle.wait_report.specs.Rows.{cost_at, ended_at, is_at, open_at, waits_at}
-use Rattle.wait_report.specs.Waits.{Wait, begun, cost_of, is_ended_by, is_open, span, wait_of, waits_in, waker}
+use Rattle.wait_report.specs.Waits.{Wait, begun_wait, cost_of, is_ended_by, is_open, span, wait_of, waits_in, waker}
 use Rattle.wait_report.specs.declared.books.Spot.{Spot}
 use Rattle.wait_report.specs.inner.Lookups.{both, same_number}
 
@@ -70,7 +70,7 @@ wait : ℕ → ℕ → List Step → Option ℕ → Wait
 wait thread word span_ waker_ = record { thread = thread; word = word; span = span_; waker = waker_ }
 
 begun_more : (word : Option ℕ) (thread : ℕ) (ys : List Step) (x : Step)
-    → begun word thread (ys ++ x ∷ []) ≡ map (on x) (begun word thread ys)
+    → begun_wait word thread (ys ++ x ∷ []) ≡ map (on x) (begun_wait word thread ys)
 unfolding wait
 begun_more None thread ys x = refl
 begun_more (Some word) thread ys x =
@@ -90,14 +90,14 @@ append_none (x ∷ xs) = ap (λ r. x ∷ r) (append_none xs)
 
 -- the waits, once a step more is there: each open wait goes on with it, and one may begin
 pub waits_more : (xs : List Step) (x : Step)
-    → waits_in (xs ++ x ∷ []) ≡ map (on x) (waits_in xs) ++ begun x.wait (thread_of x) []
-waits_more [] x = append_none (begun x.wait (thread_of x) [])
+    → waits_in (xs ++ x ∷ []) ≡ map (on x) (waits_in xs) ++ begun_wait x.wait (thread_of x) []
+waits_more [] x = append_none (begun_wait x.wait (thread_of x) [])
 waits_more (y ∷ ys) x =
     (λ i. begun_more y.wait (thread_of y) ys x i ++ waits_more ys x i)
-    ∙ sym (append_three (map (on x) (begun y.wait (thread_of y) ys)) (map (on x) (waits_in ys))
-    (begun x.wait (thread_of x) []))
-    ∙ ap (λ zs. zs ++ begun x.wait (thread_of x) [])
-    (sym (map_both (on x) (begun y.wait (thread_of y) ys) (waits_in ys)))
+    ∙ sym (append_three (map (on x) (begun_wait y.wait (thread_of y) ys)) (map (on x) (waits_in ys))
+    (begun_wait x.wait (thread_of x) []))
+    ∙ ap (λ zs. zs ++ begun_wait x.wait (thread_of x) [])
+    (sym (map_both (on x) (begun_wait y.wait (thread_of y) ys) (waits_in ys)))
 
 -- ---- sums over waits
 
@@ -124,10 +124,10 @@ sum_if false f xs = sum_none xs
 -- a number of each of the waits after one more step
 number_more : (g : Wait → ℕ) (xs : List Step) (x : Step)
     → sum_by g (waits_in (xs ++ x ∷ []))
-    ≡ sum_by (λ w. g (on x w)) (waits_in xs) + sum_by g (begun x.wait (thread_of x) [])
+    ≡ sum_by (λ w. g (on x w)) (waits_in xs) + sum_by g (begun_wait x.wait (thread_of x) [])
 number_more g xs x =
-    ap (sum_by g) (waits_more xs x) ∙ sum_by-append g (map (on x) (waits_in xs)) (begun x.wait (thread_of x) [])
-    ∙ ap (λ n. n + sum_by g (begun x.wait (thread_of x) [])) (sum_map g (on x) (waits_in xs))
+    ap (sum_by g) (waits_more xs x) ∙ sum_by-append g (map (on x) (waits_in xs)) (begun_wait x.wait (thread_of x) [])
+    ∙ ap (λ n. n + sum_by g (begun_wait x.wait (thread_of x) [])) (sum_map g (on x) (waits_in xs))
 
 abbrev pub one : Bool → ℕ
 one b = cond b 1 0
@@ -136,7 +136,7 @@ pub waits_at_more : (s : Spot) (xs : List Step) (x : Step)
     → waits_at s (xs ++ x ∷ []) ≡ waits_at s xs + waits_at s (x ∷ [])
 waits_at_more s xs x =
     number_more (λ w. one (is_at s w)) xs x
-    ∙ ap (λ n. waits_at s xs + n) (ap (λ ws. count_by (is_at s) ws) (sym (append_none (begun x.wait (thread_of x) []))))
+    ∙ ap (λ n. waits_at s xs + n) (ap (λ ws. count_by (is_at s) ws) (sym (append_none (begun_wait x.wait (thread_of x) []))))
 
 -- which thread a wait at a spot is of
 at_thread : (s : Spot) (w : Wait) → is_at s w ≡ true → s.thread.0 ≡ w.thread
@@ -170,7 +170,7 @@ pub open_at_more : (s : Spot) (xs : List Step) (x : Step)
     ≡ (if not (is_woken s.thread.0 x) then open_at s xs else 0) + open_at s (x ∷ [])
 open_at_more s xs x =
     let q : Wait → ℕ = λ w. one (is_at s w && is_open w) in
-    let last = sym (append_none (begun x.wait (thread_of x) [])) in
+    let last = sym (append_none (begun_wait x.wait (thread_of x) [])) in
     number_more q xs x
     ∙ (λ i. sum_by (λ w. open_share s x w i) (waits_in xs) + sum_by q (last i))
     ∙ ap (λ n. n + open_at s (x ∷ [])) (sum_if (not (is_woken s.thread.0 x)) q (waits_in xs))
@@ -208,7 +208,7 @@ ended_share s u x w = by (is_at s w) refl w.waker refl
     by false e k f = none 0 (is_woken s.thread.0 x && thread_of x == u.0)
 
 none_ended : (s : Spot) (u : ThreadNo) (word : Option ℕ) (thread : ℕ)
-    → count_by (λ w. is_at s w && is_ended_by u.0 w) (begun word thread []) ≡ 0
+    → count_by (λ w. is_at s w && is_ended_by u.0 w) (begun_wait word thread []) ≡ 0
 none_ended s u None thread = refl
 none_ended s u (Some word) thread = by (is_at s (wait_of thread [] word))
   where
@@ -239,7 +239,7 @@ ended_at_more s u xs x =
 
 pub cost_of_more : (kind : ℕ) (xs : List Step) (x : Step)
     → cost_of kind (xs ++ x ∷ []) ≡ cost_of kind xs + cost_of kind (x ∷ [])
-cost_of_more kind xs x = sum_by-append (λ (y : Step). slice_index y.seen.cost kind) xs (x ∷ [])
+cost_of_more kind xs x = sum_by-append (λ (y : Step). slice_index y.on_stack.cost kind) xs (x ∷ [])
 
 cost_share : (kind : ℕ) (s : Spot) (x : Step) (w : Wait)
     → (if is_at s w then cost_of kind (on_span (is_open w) w.span x) else 0)
@@ -258,7 +258,7 @@ cost_share kind s x w = by (is_at s w) (is_open w)
     by false o = refl
 
 none_cost : (kind : ℕ) (s : Spot) (word : Option ℕ) (thread : ℕ)
-    → sum_by (λ w. if is_at s w then cost_of kind w.span else 0) (begun word thread []) ≡ 0
+    → sum_by (λ w. if is_at s w then cost_of kind w.span else 0) (begun_wait word thread []) ≡ 0
 none_cost kind s None thread = refl
 none_cost kind s (Some word) thread = by (is_at s (wait_of thread [] word))
   where
@@ -369,7 +369,7 @@ pub ended_below : (s : Spot) (u : ThreadNo) (xs : List Step) → ended_at s u xs
 ended_below s u xs = count_below (is_at s) (is_ended_by u.0) (waits_in xs)
 
 begun_below : (s : Spot) (word : Option ℕ) (thread : ℕ) (later : List Step)
-    → count_by (is_at s) (begun word thread later) ≤ 1
+    → count_by (is_at s) (begun_wait word thread later) ≤ 1
 begun_below s None thread later = omega arith
 begun_below s (Some word) thread later = by (is_at s (wait_of thread later word))
   where
@@ -382,7 +382,7 @@ waits_below s [] = omega arith
 waits_below s (x ∷ xs) =
     omega (
       arith,
-      sum_by-append (λ w. one (is_at s w)) (begun x.wait (thread_of x) xs) (waits_in xs),
+      sum_by-append (λ w. one (is_at s w)) (begun_wait x.wait (thread_of x) xs) (waits_in xs),
       begun_below s x.wait (thread_of x) xs,
       waits_below s xs,
     )

@@ -7,10 +7,10 @@ use Rattle.std.proofs.lemmas.List.Elements.{recursion_from_All}
 use Rattle.std.proofs.lemmas.Simd.{length-zip2}
 use Rattle.event_costs.specs.Costs.{IsWhole, sum_of_costs}
 use Rattle.event_costs.specs.declared.numbers.ThreadNo.{ThreadNo}
-use Rattle.shadow_stack.specs.Traces.{Seen}
+use Rattle.shadow_stack.specs.Traces.{EventOnStack}
 use Rattle.part_dump.specs.Steps.{Step}
 use Rattle.part_dump.specs.Watched.{waits}
-use Rattle.wait_report.specs.Keeping.{Kept, open_of, passed, spot, sum_of}
+use Rattle.wait_report.specs.Keeping.{WaitBooks, open_of, after_event, spot, sum_of}
 use Rattle.wait_report.specs.Rows.{cost_at, ended_at, open_at, waits_at}
 use Rattle.wait_report.specs.Waits.{cost_of}
 use Rattle.wait_report.specs.Standing.{AreOpen, IsCost, MayFollow, StandsFor, step}
@@ -49,7 +49,7 @@ are_open_same xs ys thread (Some o) same are = (are.0, λ word. same word ∙ ar
 plus_none : (n m : ℕ) → m ≡ n + 0 → m ≡ n
 plus_none n m e = omega (arith, e)
 
-module _ (k : Kept) (xs : List Step) (seen : Seen) (stands : StandsFor k xs)
+module _ (k : WaitBooks) (xs : List Step) (seen : EventOnStack) (stands : StandsFor k xs)
     (follows : MayFollow xs (step seen None [])) where
   abbrev x : Step
   x = step seen None []
@@ -135,7 +135,7 @@ module _ (k : Kept) (xs : List Step) (seen : Seen) (stands : StandsFor k xs)
           let total = total_more kind in
           let before = stands.within kind s in omega (arith, more, total, before)
 
-  pub passes : StandsFor (passed seen.cost k) (xs ++ x ∷ [])
+  pub passes : StandsFor (after_event seen.cost k) (xs ++ x ∷ [])
   passes = record {
     few = let one = one_more xs x in let room = follows.room in omega (arith, one, room);
     ones = λ kind.

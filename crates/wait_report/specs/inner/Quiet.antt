@@ -8,10 +8,10 @@ use Rattle.std.proofs.lemmas.List.Elements.{All-from_recursion}
 use Rattle.std.proofs.lemmas.List.Sums.{sum_by-cons}
 use Rattle.part_dump.specs.Steps.{Step, thread_of}
 use Rattle.part_dump.specs.Watched.{waits}
-use Rattle.wait_report.specs.Keeping.{Kept, nothing, open_of, spot, steps}
+use Rattle.wait_report.specs.Keeping.{WaitBooks, nothing, open_of, spot, steps}
 use Rattle.wait_report.specs.Rows.{is_at, open_at, thread_no}
 use Rattle.wait_report.specs.Standing.{AreOpen, MayAllFollow, StandsFor}
-use Rattle.wait_report.specs.Waits.{AreOfOthers, Wait, begun, is_open, waits_in}
+use Rattle.wait_report.specs.Waits.{AreOfOthers, Wait, begun_wait, is_open, waits_in}
 use Rattle.wait_report.specs.declared.books.Open.{Open}
 use Rattle.wait_report.specs.inner.Counts.{on, one, on_span, waits_more}
 use Rattle.wait_report.specs.inner.Law.{nothing_stands, stands_step}
@@ -65,15 +65,15 @@ quiet_on x (w ∷ ws) apart quiet = (by (is_open w) refl, quiet_on x ws apart.1 
     by true e = others_more w.thread w.span x quiet.0 (apart.0 e)
     by false e = quiet.0
 
-quiet_begun : (word : Option ℕ) (thread : ℕ) → AreQuiet (begun word thread [])
+quiet_begun : (word : Option ℕ) (thread : ℕ) → AreQuiet (begun_wait word thread [])
 quiet_begun None thread = tt
 quiet_begun (Some word) thread = (tt, tt)
 
-quiet_step : (k : Kept) (ys : List Step) (x : Step) → StandsFor k ys → waits (thread_of x) ys ≡ false
+quiet_step : (k : WaitBooks) (ys : List Step) (x : Step) → StandsFor k ys → waits (thread_of x) ys ≡ false
     → AreQuiet (waits_in ys) → AreQuiet (waits_in (ys ++ x ∷ []))
 quiet_step k ys x stands awake quiet =
     subst AreQuiet (sym (waits_more ys x))
-    (quiet_both (map (on x) (waits_in ys)) (begun x.wait (thread_of x) [])
+    (quiet_both (map (on x) (waits_in ys)) (begun_wait x.wait (thread_of x) [])
     (quiet_on x (waits_in ys) (closed x (waits_in ys) none_open) quiet)
     (quiet_begun x.wait (thread_of x)))
   where
@@ -87,13 +87,13 @@ quiet_step k ys x stands awake quiet =
         (is_none (open_of (thread_no (thread_of x)) k) (sym (stands.asleep (thread_no (thread_of x))) ∙ awake))
         (stands.waiting (thread_no (thread_of x)))
 
-pub quiet_after : (k : Kept) (earlier xs : List Step) → StandsFor k earlier → MayAllFollow earlier xs
+pub quiet_after : (k : WaitBooks) (earlier xs : List Step) → StandsFor k earlier → MayAllFollow earlier xs
     → AreQuiet (waits_in earlier) → AreQuiet (waits_in (earlier ++ xs))
 quiet_after k earlier [] stands follow quiet =
     subst (λ ys. AreQuiet (waits_in ys)) (sym (append-nil earlier)) quiet
 quiet_after k earlier (x ∷ xs) stands follow quiet =
     subst (λ ys. AreQuiet (waits_in ys)) (append_assoc earlier (x ∷ []) xs)
-    (quiet_after (steps x.seen.event.thread x.seen.cost x.wait x.woken k) (earlier ++ x ∷ []) xs
+    (quiet_after (steps x.on_stack.event.thread x.on_stack.cost x.wait x.woken k) (earlier ++ x ∷ []) xs
     (stands_step k earlier x stands follow.0) follow.1 (quiet_step k earlier x stands follow.0.awake quiet))
 
 others : (thread : ℕ) (xs : List Step) → IsOfOthers thread xs → AllByRecursion (λ x. thread_of x ≢ thread) xs

@@ -10,10 +10,10 @@ use Rattle.std.proofs.lemmas.List.Folds.{list_any-append}
 use Rattle.std.proofs.lemmas.Simd.{length-zip2}
 use Rattle.event_costs.specs.Costs.{IsWhole, difference_of_costs, no_cost, sum_of_costs}
 use Rattle.event_costs.specs.declared.numbers.ThreadNo.{ThreadNo}
-use Rattle.shadow_stack.specs.Traces.{Seen}
+use Rattle.shadow_stack.specs.Traces.{EventOnStack}
 use Rattle.part_dump.specs.Steps.{Step}
 use Rattle.part_dump.specs.Watched.{waits}
-use Rattle.wait_report.specs.Keeping.{Kept, ended_sum, ends, ends_open, flat, open_of}
+use Rattle.wait_report.specs.Keeping.{WaitBooks, ended_sum, ends, ends_open, flat, open_of}
 use Rattle.wait_report.specs.Keeping.{same_thread, same_wake, spot, sum_of}
 use Rattle.wait_report.specs.Keeping.{times_of, wakes}
 use Rattle.wait_report.specs.Rows.{cost_at, ended_at, open_at, same_spot, waits_at}
@@ -101,7 +101,7 @@ gate_asleep false true false false a b e f = e
 gate_asleep false false true all a b e f = e ∙ sym f
 gate_asleep false false false all a b e f = e ∙ sym f
 
-module _ (ys : List Step) (seen : Seen) (woken : List ThreadNo) (t : ThreadNo) where
+module _ (ys : List Step) (seen : EventOnStack) (woken : List ThreadNo) (t : ThreadNo) where
   abbrev before : List Step
   before = ys ++ step seen None woken ∷ []
 
@@ -163,7 +163,7 @@ module _ (ys : List Step) (seen : Seen) (woken : List ThreadNo) (t : ThreadNo) w
   length_same =
       one_more ys (step seen None (woken ++ t ∷ [])) ∙ sym (one_more ys (step seen None woken))
 
-  module _ (k : Kept) (stands : StandsFor k before) where
+  module _ (k : WaitBooks) (stands : StandsFor k before) where
     abbrev by : ThreadNo
     by = seen.event.thread
 
@@ -244,7 +244,7 @@ module _ (ys : List Step) (seen : Seen) (woken : List ThreadNo) (t : ThreadNo) w
       abbrev wake : Wake
       wake = record { spot = here; waker = by }
 
-      abbrev new : Kept
+      abbrev new : WaitBooks
       new = ends by t o k
 
       are : AreOpen before t (Some o)

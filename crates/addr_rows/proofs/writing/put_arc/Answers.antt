@@ -1,5 +1,5 @@
 use Rattle.std.proofs.Common.{OnOk, subst}
-use Rattle.cg_format.specs.Standing.{Wrote}
+use Rattle.cg_format.specs.Standing.{WriterState}
 use Rattle.addr_rows.specs.Texts.{row_lines}
 use Rattle.addr_rows.specs.declared.row.AddrRow.TheVariants.{Arc}
 use Rattle.addr_rows.specs.declared.rows.AddrArc.{AddrArc}
@@ -11,7 +11,7 @@ returns c before wrote =
     let named = c.in_ok-put_callee.ensures _ at in
     let counted = c.in_ok-put_line.ensures _ _ named in
     let m = c.args.syms.now in
-    subst (λ (row : AddrArc). OnOk c.put_line-2.result (Wrote m (row_lines c.args.head.now m before (Arc row))
+    subst (λ (row : AddrArc). OnOk c.put_line-2.result (WriterState m (row_lines c.args.head.now m before (Arc row))
     c.put_line-2.new.self)) c.row.view_is
     (simp (
       c.home.ensures.number,

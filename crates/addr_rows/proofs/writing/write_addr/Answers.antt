@@ -3,7 +3,7 @@ use Rattle.std.proofs.lemmas.List.{take_all}
 use Rattle.std.proofs.lemmas.List.Sums.{fold_more}
 use Rattle.arc_costs.specs.Contents.{Listed}
 use Rattle.cg_format.specs.Marks.{Mark, Plain}
-use Rattle.cg_format.specs.Standing.{Wrote}
+use Rattle.cg_format.specs.Standing.{WriterState}
 use Rattle.cg_format.specs.Sums.{sum_of_lines}
 use Rattle.addr_rows.specs.Texts.{after_row, heading}
 use Rattle.addr_rows.proofs.KnownLemmas.{functions_below, known_row}
@@ -27,7 +27,7 @@ rows-preserved c =
     let start = reverse (map Plain (heading c.args.head.now c.sum_of_lines-sum.result)) in
     let xs = c.deref-row-items.result.now in
     let i = c.rows.row-index in
-    let written : List Mark → Type 0 = λ lines. Wrote m lines c.put_row.new.writer in
+    let written : List Mark → Type 0 = λ lines. WriterState m lines c.put_row.new.writer in
     subst written
     (ap (step (fold step start (take i xs))) c.row-item.is
     ∙ sym (fold_more step start xs i c.row-item.result (omega arith)))

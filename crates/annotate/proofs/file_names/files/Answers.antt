@@ -9,7 +9,7 @@ use Rattle.std.proofs.lemmas.Result.{IfOk-weaker}
 use Rattle.cg_read.specs.Profiles.{Contents, IsProfile, file_at, unknown}
 use Rattle.annotate.specs.Files.{AreFilesShown, is_in_file}
 use Rattle.report_rows.specs.Orders.{text_order}
-use Rattle.annotate.proofs.FileLemmas.{file_within, held, name_added, name_passed, name_seen, one_more_seen, still_seen}
+use Rattle.annotate.proofs.FileLemmas.{file_within, set_holds, name_added, name_passed, name_seen, one_more_seen, still_seen}
 use Rattle.annotate.proofs.file_names.files.Goals as goal
 use Rattle.annotate.proofs.file_names.files.Goals.{then-ne+in_ok-insert, else-ne}
 
@@ -87,7 +87,7 @@ returns c =
     let rows = c.deref-row-items.ensures.value ∙ ap (λ (q : Contents). q.self_rows) c.profile.view_is in
     let shown : AreFilesShown p names.keys = record {
       rising = c.copies.ensures.rising;
-      exact = λ name. held names name ∙ c.rows.invariant.names name
+      exact = λ name. set_holds names name ∙ c.rows.invariant.names name
           ∙ ap (λ rs. list_any (is_in_file p name) rs && not (bytes_eq name unknown))
           (take_all c.rows.row-index c.deref-row-items.result.now c.rows-test.false ∙ rows);
     } in

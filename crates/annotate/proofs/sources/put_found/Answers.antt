@@ -7,7 +7,7 @@ use Rattle.cg_read.specs.Profiles.{Contents, IsProfile}
 use Rattle.annotate.specs.Files.{is_in_file}
 use Rattle.report_rows.specs.Orders.{numbers}
 use Rattle.annotate.specs.Sources.{lines_text, others_text, shown_byte, text_lines}
-use Rattle.report_rows.specs.Entries.{AreAtPlaces, AreWithin, is_at, said, said_at, self_entry}
+use Rattle.report_rows.specs.Entries.{AreAtPlaces, AreWithin, is_at, entry_values, values_at, self_entry}
 use Rattle.annotate.specs.inner.SourceRows.{costs_or_dot, is_outside, other_with, pieces}
 use Rattle.report_rows.specs.declared.entries.By.TheVariants as by
 use Rattle.report_rows.specs.declared.entries.Entry.{Entry}
@@ -26,7 +26,7 @@ put_lines-requires c n =
     let stands = subst (λ xs. AreAtPlaces xs places) c.requires.rows c.in_ok-rows.ensures in
     let events : c.len-events.result ≡ length p.events =
     omega (arith, c.len-events.ensures, ap (λ (q : Contents). length q.events) same) in
-    subst (λ e. IfSome (said_at places n) (AreWithin e)) (sym events)
+    subst (λ e. IfSome (values_at places n) (AreWithin e)) (sym events)
     (subst (λ o. IfSome o (AreWithin (length p.events))) (sym (stands.exact n))
     (if_any_all (AreWithin (length p.events)) (filter (is_at n) ks) (line_within p profile name c.requires.within n)))
 
@@ -40,9 +40,9 @@ put_others-requires c =
     let stands = subst (λ xs. AreAtPlaces xs places) c.requires.rows c.in_ok-rows.ensures in
     let events : c.len-events.result ≡ length p.events =
     omega (arith, c.len-events.ensures, ap (λ (q : Contents). length q.events) same) in
-    let entries = c.deref-2.ensures.value ∙ c.in_ok-listed.ensures in
-    subst (λ n. All (λ (e : ℕ × Vec Entry Global). AreWithin n (said e.1.items)) c.deref-2.result.now) (sym events)
-    (subst (All (λ (e : ℕ × Vec Entry Global). AreWithin (length p.events) (said e.1.items))) (sym entries)
+    let entries = c.deref-2.ensures.value ∙ c.in_ok-into_list.ensures in
+    subst (λ n. All (λ (e : ℕ × Vec Entry Global). AreWithin n (entry_values e.1.items)) c.deref-2.result.now) (sym events)
+    (subst (All (λ (e : ℕ × Vec Entry Global). AreWithin (length p.events) (entry_values e.1.items))) (sym entries)
     (entries_within p profile name places stands c.requires.within))
 
 pub returns : goal.returns
@@ -55,13 +55,13 @@ returns c =
     let stands = subst (λ xs. AreAtPlaces xs places) c.requires.rows c.in_ok-rows.ensures in
     let events : c.len-events.result ≡ length p.events =
     omega (arith, c.len-events.ensures, ap (λ (q : Contents). length q.events) same) in
-    let entries = c.deref-2.ensures.value ∙ c.in_ok-listed.ensures in
+    let entries = c.deref-2.ensures.value ∙ c.in_ok-into_list.ensures in
     let lines = text_lines c.args.source.now in
     let size : length c.in_ok-lines.lines.items ≡ length lines =
     sym (length-map c.in_ok-lines.lines.items (λ (l : Bor (List ℕ)). l.now)) ∙ ap length c.in_ok-lines.ensures in
     let count : c.len.result ≡ length lines = omega (arith, c.len.ensures, size) in
     let text = λ (e : ℕ) (ls : List (List ℕ)) (n : ℕ). flat_map
-    (λ i. costs_or_dot e (said_at places (i + 1)) ++ codes " | "
+    (λ i. costs_or_dot e (values_at places (i + 1)) ++ codes " | "
     ++ map shown_byte (get_or ls i []) ++ codes "\n") (numbers n) in
     let first =
     ap (λ e. text e (pieces c.deref.result.now) (length c.deref.result.now)) events
@@ -70,7 +70,7 @@ returns c =
     ∙ ap (text (length p.events) lines) (ap length c.deref.ensures.value ∙ size)
     ∙ lines_there p profile name places stands lines in
     let other = λ (e n : ℕ) (es : List (ℕ × Vec Entry Global)). flat_map
-    (λ (x : ℕ × Vec Entry Global). other_with e x.0 (said x.1.items))
+    (λ (x : ℕ × Vec Entry Global). other_with e x.0 (entry_values x.1.items))
     (filter (λ (x : ℕ × Vec Entry Global). is_outside n x.0) es) in
     let second =
     ap (λ e. other e c.len.result c.deref-2.result.now) events

@@ -1,5 +1,5 @@
 use Rattle.std.proofs.Common.{◌<◌, ◌∙◌, ap, sym, arith, length}
-use Rattle.report_rows.specs.Entries.{said}
+use Rattle.report_rows.specs.Entries.{entry_values}
 use Rattle.report_rows.proofs.EntryLemmas.{list_at_read}
 use Rattle.annotate.proofs.FileLemmas.{no_rows, rows_there}
 use Rattle.annotate.proofs.sources.rows_of.Goals as goal
@@ -24,7 +24,7 @@ returns-in-Some c =
     let n = c.in-Some.number.now in
     let here = c.requires.files.there n name (sym (rw c.as_ref.ensures at c.in-Some.ensures.value)) in
     let inside : n < length c.args.rows.now = omega (arith, here.0, c.requires.rows.size) in
-    ap said (c.as_slice.ensures.value ∙ list_at_read c.args.rows.now n c.index-rows-number.result inside
+    ap entry_values (c.as_slice.ensures.value ∙ list_at_read c.args.rows.now n c.index-rows-number.result inside
     c.index-rows-number.is)
     ∙ rows_there p c.requires.profile name c.args.rows.now n c.requires.rows here
 

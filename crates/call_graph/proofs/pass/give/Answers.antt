@@ -1,6 +1,6 @@
 use Rattle.std.proofs.Common.{◌+◌, length, get_or, arith}
 use Rattle.call_graph.specs.inner.Pass.{IsFair, ranks}
-use Rattle.call_graph.specs.declared.state.State.TheVariants.{Closed}
+use Rattle.call_graph.specs.declared.visit_state.VisitState.TheVariants.{Closed}
 use Rattle.std.proofs.lemmas.List.Elements.{All-set}
 use Rattle.call_graph.proofs.GiveLemmas.{given_more, ranks_given}
 use Rattle.call_graph.proofs.pass.give.Goals as goal

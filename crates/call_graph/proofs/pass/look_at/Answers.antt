@@ -2,9 +2,9 @@ use Rattle.std.proofs.Common.{sym, subst, ◌∙◌, arith}
 use Rattle.std.proofs.lemmas.Result.{on_ok_weaker}
 use Rattle.call_graph.specs.inner.Rows.{lists}
 use Rattle.call_graph.specs.inner.Pass.{IsEntered, IsCut}
-use Rattle.call_graph.specs.declared.state.State.TheVariants.{New, Open, Closed}
+use Rattle.call_graph.specs.declared.visit_state.VisitState.TheVariants.{New, Open, Closed}
 use Rattle.call_graph.proofs.RowLemmas.{row_at}
-use Rattle.call_graph.proofs.StandLemmas.{rank_by, entered_later, entered_no_more, looked, cut_closed}
+use Rattle.call_graph.proofs.StandLemmas.{rank_by, entered_later, entered_no_more, later_after_look, cut_closed}
 use Rattle.call_graph.proofs.pass.look_at.Goals as goal
 
 pub returns-in-New-clause-later : goal.returns-in-New-clause-later
@@ -39,13 +39,13 @@ pub returns-in-Open-clause-later : goal.returns-in-Open-clause-later
 returns-in-Open-clause-later c =
     let rank = rank_by c.args.function c.index.result.now
     (Open c.in-Open.place) c.requires.stands c.requires.within c.index.ensures c.in-Open.is in
-    looked (lists c.args.rows.now) c.args.pass.now c.args.function c.join.new.marks c.requires (omega (arith, rank))
+    later_after_look (lists c.args.rows.now) c.args.pass.now c.args.function c.join.new.marks c.requires (omega (arith, rank))
     (subst (λ r. IsCut c.args.pass.now.marks.items r c.join.new.marks.items) (sym rank) c.join.ensures)
 
 pub returns-in-Closed-clause-later : goal.returns-in-Closed-clause-later
 returns-in-Closed-clause-later c =
     let rank = rank_by c.args.function c.index.result.now
     (Closed c.in-Closed.field-0) c.requires.stands c.requires.within c.index.ensures c.in-Closed.is in
-    looked (lists c.args.rows.now) c.args.pass.now c.args.function c.args.pass.now.marks c.requires
+    later_after_look (lists c.args.rows.now) c.args.pass.now c.args.function c.args.pass.now.marks c.requires
     (omega (arith, rank))
     (cut_closed (lists c.args.rows.now) c.args.pass.now c.args.function c.requires (omega (arith, rank)))

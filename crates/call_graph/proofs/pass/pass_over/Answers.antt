@@ -1,8 +1,8 @@
 use Rattle.std.proofs.Common.{length, replicate, refl, sym, ap, ◌∙◌, arith}
 use Rattle.call_graph.specs.inner.Rows.{lists}
-use Rattle.call_graph.specs.declared.state.State.TheVariants.{New}
+use Rattle.call_graph.specs.declared.visit_state.VisitState.TheVariants.{New}
 use Rattle.call_graph.proofs.RowLemmas.{length-lists}
-use Rattle.call_graph.proofs.StandLemmas.{begun, all_finished}
+use Rattle.call_graph.proofs.StandLemmas.{pass_at_start, all_finished}
 use Rattle.call_graph.proofs.pass.pass_over.Goals as goal
 
 pub roots-init : goal.roots-init
@@ -11,7 +11,7 @@ roots-init c =
     ∙ ap (λ n. replicate n New) (sym (length-lists c.args.rows.now)) in
     record {
       stands =
-          begun (lists c.args.rows.now) _ states c.new.ensures.items c.new-3.ensures.items c.new-2.ensures.items refl;
+          pass_at_start (lists c.args.rows.now) _ states c.new.ensures.items c.new-3.ensures.items c.new-2.ensures.items refl;
       finished = ap length c.new-2.ensures.items;
       met = λ g lt. absurd (omega arith);
     }

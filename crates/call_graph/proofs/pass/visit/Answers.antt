@@ -1,10 +1,10 @@
 use Rattle.std.proofs.Common.{◌<◌, ℕ, List, get_or, length, sym, subst, ◌∙◌, arith}
 use Rattle.call_graph.specs.inner.Rows.{lists}
 use Rattle.call_graph.specs.inner.Pass.{IsEntered, IsLater, ranks}
-use Rattle.call_graph.specs.declared.state.State.TheVariants.{New}
+use Rattle.call_graph.specs.declared.visit_state.VisitState.TheVariants.{New}
 use Rattle.call_graph.specs.declared.pass.Pass.{Pass}
 use Rattle.call_graph.proofs.RowLemmas.{length-lists, row_at}
-use Rattle.call_graph.proofs.StandLemmas.{rank_by, empty_path, entered_later, entered_met, met_by, unchanged}
+use Rattle.call_graph.proofs.StandLemmas.{rank_by, empty_path, entered_later, entered_met, met_by, later_itself}
 use Rattle.call_graph.proofs.pass.visit.Goals as goal
 use Rattle.call_graph.proofs.pass.visit.Goals.{in-New+in_ok-enter, in_default}
 
@@ -34,7 +34,7 @@ steps-init c =
       | in_default w ↦
           let within : root < length rows = omega (arith, c.requires.root, length-lists c.args.rows.now) in
           subst (IsMetAt rows root old) (sym w.pass-is) (
-            unchanged c.requires.stands,
+            later_itself c.requires.stands,
             met_by root c.index.result.now c.requires.stands within c.index.ensures w.in_default.not-New,
           )
     ]

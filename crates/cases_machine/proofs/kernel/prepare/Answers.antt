@@ -1,6 +1,6 @@
 use Rattle.std.proofs.Common.{◌<◌, ◌%◌, Some, length, refl, sym, ap, ◌∙◌, arith}
 use Rattle.guest_load.specs.declared.thread.Thread.{Thread}
-use Rattle.guest_load.specs.Lawful.{state_of}
+use Rattle.guest_load.specs.Lawful.{guest_of}
 use Rattle.guest_sys.specs.declared.caller.Caller.{Caller}
 use Rattle.guest_sys.specs.Common.{IsCaller}
 use Rattle.guest_sys.proofs.GuestLemmas.{caller_lawful, lawful_with_caller}
@@ -12,11 +12,11 @@ invariant_of-guest c =
     let within : c.unwrap_or-place.result < length c.guest.inside.threads.items =
     omega (arith, c.if-place-len.false, c.len.ensures, c.deref.ensures.len, ap length c.deref.ensures.value) in
     let caller : Caller = record { place = c.unwrap_or-place.result; thread = c.index-live.result.now } in
-    let is : IsCaller (state_of c.guest.inside) caller =
+    let is : IsCaller (guest_of c.guest.inside) caller =
     sym (some_at c.guest.inside.threads.items c.unwrap_or-place.result c.index-live.result.now within)
     ∙ ap (λ (t : Thread). Some t) (sym c.index-live.ensures) in
-    let h = caller_lawful (state_of c.guest.inside) caller c.guest.invariant is in
-    lawful_with_caller (state_of c.guest.inside) caller
+    let h = caller_lawful (guest_of c.guest.inside) caller c.guest.invariant is in
+    lawful_with_caller (guest_of c.guest.inside) caller
     (record { no = c.index-live.result.now.no; regs = c.registers.result; clear = c.index-live.result.now.clear })
     c.guest.invariant is refl
     (record {

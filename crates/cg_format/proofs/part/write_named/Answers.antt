@@ -6,7 +6,7 @@ use Rattle.cg_format.specs.Heading.{heading}
 use Rattle.cg_format.specs.Marks.{Mark, Plain}
 use Rattle.cg_format.specs.Part.{after_row}
 use Rattle.cg_format.specs.Sums.{sum_of_lines}
-use Rattle.cg_format.specs.Standing.{Wrote}
+use Rattle.cg_format.specs.Standing.{WriterState}
 use Rattle.cg_format.proofs.KnownLemmas.{functions_below, known_row}
 use Rattle.cg_format.proofs.PartLemmas.{whole_part}
 use Rattle.cg_format.proofs.part.write_named.Goals as goal
@@ -30,7 +30,7 @@ rows-preserved g c =
     let start = reverse (map Plain (heading c.args.head.now c.sum_of_lines-sum.result)) in
     let xs = c.deref-row-items.result.now in
     let i = c.rows.row-index in
-    let written : List Mark → Type 0 = λ lines. Wrote m lines c.put_row.new.writer in
+    let written : List Mark → Type 0 = λ lines. WriterState m lines c.put_row.new.writer in
     subst written
     (ap (step (fold step start (take i xs))) c.row-item.is
     ∙ sym (fold_more step start xs i c.row-item.result (omega arith)))

@@ -4,7 +4,7 @@ use Rattle.std.specs.Char.{is_digit, digit_value}
 use Rattle.std.proofs.lemmas.Bool.Decides.{nat_tests}
 use Rattle.std.proofs.lemmas.List.Folds.{list_all_more}
 use Rattle.std.proofs.lemmas.Int.Digits.{digits_value_more}
-use Rattle.cg_lines.specs.Numbers.{limited}
+use Rattle.cg_lines.specs.Numbers.{checked_number}
 use Rattle.cg_lines.proofs.number.numeral.Goals as goal
 
 -- one more digit of the radix
@@ -20,5 +20,5 @@ digits-preserved c = record {
   digits =
       one_more _ _ _ _ c.digits-test.true c.digit_value-digit.ensures c.if-digit-radix.false c.digits.invariant.digits;
   value = c.with_digit-number.ensures _ c.digits.invariant.value
-      ∙ ap limited (rw (c.digit_value-digit.ensures) (sym (digits_value_more _ _ _ c.digits-test.true)));
+      ∙ ap checked_number (rw (c.digit_value-digit.ensures) (sym (digits_value_more _ _ _ c.digits-test.true)));
 }

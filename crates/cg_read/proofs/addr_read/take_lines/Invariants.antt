@@ -1,7 +1,7 @@
 use Rattle.std.proofs.Common.{◌≡◌, ◌++◌, None, map, length}
 use Rattle.cg_lines.specs.Lines.{lines}
 use Rattle.cg_read.specs.inner.KnowingAddresses.{KnowsAddresses}
-use Rattle.cg_read.specs.Addresses.{bare}
+use Rattle.cg_read.specs.Addresses.{without_addresses}
 use Rattle.cg_read.specs.AddressReading.{history_of, bad_line}
 use Rattle.cg_read.specs.Reading.{last_line}
 use Rattle.cg_read.proofs.addr_read.take_lines.Given as goal
@@ -16,5 +16,5 @@ invariant-lines l =
       knows : KnowsAddresses l.reader (history_of seen);
       sound : bad_line (history_of seen) ≡ None;
       number : l.number ≡ length l.yielded;
-      last : l.last ≡ last_line (bare (history_of seen));
+      last : l.last ≡ last_line (without_addresses (history_of seen));
     }

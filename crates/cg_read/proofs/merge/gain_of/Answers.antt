@@ -1,7 +1,7 @@
 use Rattle.std.proofs.Common.{◌≡◌, ◌∙◌, length}
 use Rattle.cg_read.specs.Profiles.{Contents, contents}
 use Rattle.cg_read.specs.declared.profile.Profile.TheInside.{Inside}
-use Rattle.cg_read.proofs.JoinLemmas.{gained, self_in_range, call_in_range}
+use Rattle.cg_read.proofs.JoinLemmas.{gain_has_rows, self_in_range, call_in_range}
 use Rattle.cg_read.proofs.merge.gain_of.Goals as goal
 
 abbrev view : Inside → Contents
@@ -41,6 +41,6 @@ returns-clause-has_rows c =
     let arcs = rw (c.deref-5.ensures.value, c.deref-6.ensures.value, events_is) at c.in_ok-call_rows.ensures in
     let few = rw (← c.own.view_is, ← c.other.view_is) at c.requires.few in
     rw (← c.own.view_is, ← c.other.view_is, rows, arcs)
-    (gained (view c.own.inside) (view c.other.inside) c.in_ok-command.command c.in_ok-files.files.added.items
+    (gain_has_rows (view c.own.inside) (view c.other.inside) c.in_ok-command.command c.in_ok-files.files.added.items
     c.args.functions.now c.in_ok-files.files.numbers.items c.own.invariant c.other.invariant few is_t at_f at_t apart_t
     c.in_ok-command.ensures)

@@ -1,5 +1,5 @@
 use Rattle.std.proofs.Common.{◌∙◌, Ok, Err, ap, refl, rules}
-use Rattle.command_steps.proofs.NamedLemmas.{named, some_wanted}
+use Rattle.command_steps.proofs.NamedLemmas.{events_have_names, some_wanted}
 use Rattle.command_steps.proofs.ReportLemmas.{ReadsFiles-wanting}
 use Rattle.command_steps.proofs.TellLemmas.{did_not_read, did_read_of}
 use Rattle.command_steps.proofs.annotating.read_files.Goals as goal
@@ -9,7 +9,7 @@ returns-in_err-files-clause-answer g c = ReadsFiles-wanting _ _ _ _ _ _ c.from_r
 
 pub returns-in-Ok-clause-events : goal.returns-in-Ok-clause-events
 returns-in-Ok-clause-events g c =
-    named _ _ _ _ c.in-Ok.profile
+    events_have_names _ _ _ _ c.in-Ok.profile
     (some_wanted c.args.names.now _ c.requires (c.deref.ensures.value ∙ c.in_ok-files.ensures)) c.in-Ok.ensures.reading
 
 pub returns-in_err-files-clause-told : goal.returns-in_err-files-clause-told

@@ -1,5 +1,5 @@
 use Rattle.std.proofs.Common.{◌≡◌, take, map}
-use Rattle.profile_files.specs.Wanted.{with_limit}
+use Rattle.profile_files.specs.WantedFile.{with_limit}
 use Rattle.command_steps.specs.Annotate.{profile_limit}
 use Rattle.command_steps.proofs.annotating.wanted.Given as goal
 

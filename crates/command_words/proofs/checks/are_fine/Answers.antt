@@ -1,5 +1,5 @@
 use Rattle.std.proofs.Common.{◌∙◌}
-use Rattle.command_words.specs.Requests.{uses_of}
+use Rattle.command_words.specs.Meaning.{uses_of}
 use Rattle.command_words.specs.Rows.{command_of}
 use Rattle.command_words.proofs.RowLemmas.{all_fine}
 use Rattle.command_words.proofs.checks.are_fine.Goals as goal

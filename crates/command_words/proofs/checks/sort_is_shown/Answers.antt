@@ -1,4 +1,4 @@
-use Rattle.command_words.specs.Requests.{uses_of}
+use Rattle.command_words.specs.Meaning.{uses_of}
 use Rattle.command_words.proofs.RowLemmas.{sort_shown}
 use Rattle.command_words.proofs.checks.sort_is_shown.Goals as goal
 

@@ -1,6 +1,6 @@
 use Rattle.std.proofs.Common.{◌∙◌}
 use Rattle.command_words.specs.Rows.{command_of}
-use Rattle.command_words.proofs.AskedLemmas.{syntax_is}
+use Rattle.command_words.proofs.RequestLemmas.{syntax_is}
 use Rattle.command_words.proofs.RowLemmas.{names_mapped}
 use Rattle.command_words.proofs.words.syntax.Goals as goal
 

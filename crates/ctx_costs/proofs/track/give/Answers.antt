@@ -2,7 +2,7 @@ use Rattle.std.proofs.Common.{ℕ, List, [], ◌∷◌, get_or, sym, ap, subst, 
 use Rattle.event_costs.specs.Arcs.{Closed, Telling}
 use Rattle.event_costs.specs.Costs.{difference_of_costs}
 use Rattle.arc_costs.specs.Arcs.{has_arc}
-use Rattle.recorder.specs.inner.Tellers.{CanTell, RowsTold}
+use Rattle.recorder.specs.inner.Tellers.{CanTell, RowsAfterTellings}
 use Rattle.recorder.proofs.SumLemmas.{own_cost}
 use Rattle.recorder.proofs.TellingLemmas.{none_used, row_told}
 use Rattle.ctx_costs.proofs.LeaveLemmas.{closing_some}
@@ -26,7 +26,7 @@ returns-in-Some g c =
     let one = closing_some c.args.total.now c.args.frame.now arc (sym c.arc.ensures ∙ c.in-Some.is) in
     let can = subst (λ (ts : List Telling). CanTell c.args.rows.now ts) one c.requires.can in
     record {
-      told = subst (λ (ts : List Telling). RowsTold c.args.rows.now ts c.add_arc.new.self)
+      told = subst (λ (ts : List Telling). RowsAfterTellings c.args.rows.now ts c.add_arc.new.self)
           (sym (one ∙ ap (λ (cost : List ℕ). Closed arc cost ∷ []) (sym c.cost.ensures)))
           (row_told c.args.rows.now c.add_arc.new.self (Closed arc c.cost.result) c.add_arc.ensures.arcs
           c.add_arc.ensures.lines c.add_arc.ensures.keys c.add_arc.ensures.stands c.add_arc.ensures.line_room

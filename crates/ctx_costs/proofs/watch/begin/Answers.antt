@@ -1,7 +1,7 @@
 use Rattle.std.proofs.Common.{◌∷◌, ◌++◌, ◌∙◌, [], List, ap, if◌then◌else◌, is_ok}
 use Rattle.ctx_rows.specs.Contexts.{number, with_context}
 use Rattle.ctx_costs.specs.inner.Tracks.{Book}
-use Rattle.ctx_rows.specs.States.{begun}
+use Rattle.ctx_rows.specs.States.{first_track}
 use Rattle.ctx_costs.proofs.watch.begin.Goals as goal
 
 pub returns-clause-ok : goal.returns-clause-ok
@@ -12,7 +12,7 @@ returns-clause-ok c = record {
       c.unwrap.ensures
       ∙ ap (λ (bs : List Book). bs ++ c.in_ok-track.track ∷ []) c.reserve.ensures.items;
   track = c.in_ok-track.ensures.track
-      ∙ ap (begun c.args.thread c.args.func)
+      ∙ ap (first_track c.args.thread c.args.func)
       (c.next_number-number.ensures ∙ ap (number c.args.contexts.now.contexts) c.of-context.ensures.listed);
   starts = c.in_ok-track.ensures.starts;
   roomy = c.in_ok-track.ensures.room;

@@ -1,5 +1,5 @@
 use Rattle.std.proofs.Common.{◌≡◌, take}
-use Rattle.dwarf_line.specs.LineTable.{row_address}
+use Rattle.dwarf_line.specs.Rows.{row_address}
 use Rattle.dwarf_line.specs.LineRow.{last_at}
 use Rattle.dwarf_line.proofs.line_table.last_at.Given as goal
 

@@ -1,5 +1,5 @@
 use Rattle.std.proofs.Common.{◌≡◌, ◌<◌, Some, sym, ◌∙◌, length, arith}
-use Rattle.dwarf_line.specs.State.{outcome_of}
+use Rattle.dwarf_line.specs.Registers.{outcome_of}
 use Rattle.dwarf_line.proofs.Runs.{begins, goes_on}
 use Rattle.dwarf_line.proofs.program.run.Goals as goal
 

@@ -7,4 +7,4 @@ pub returns : goal.returns
 unfolding event_names
 returns c =
     let text : Bor (List ℕ) → List ℕ = λ name. name.now in
-    ap (map text) c.shown.ensures ∙ map-events_shown text c.args.branches _
+    ap (map text) c.shown_part.ensures ∙ map-events_shown text c.args.branches _

@@ -4,7 +4,7 @@ use Rattle.std.specs.Prelude.{unwrap_or}
 use Rattle.std.proofs.lemmas.List.{take_rest}
 use Rattle.std.proofs.lemmas.Result.{err_from_is_err_and}
 use Rattle.guest_mem.specs.declared.error.MapError.TheVariants.{Full}
-use Rattle.guest_mem.specs.Memory.{page_count, zeroed}
+use Rattle.guest_mem.specs.Memory.{page_count, zero_range}
 use Rattle.guest_load.proofs.TableLemmas.{run_from, table_empty, table_run, table_gap, front_pages}
 use Rattle.guest_load.proofs.pages.map_table.Goals as goal
 use Rattle.guest_load.proofs.pages.map_table.Goals.{in-Some+in_ok-map, in_default}
@@ -24,7 +24,7 @@ returns-in_err-map-clause-full c refused =
     let asked : c.map.result ≡ Err Full = cc (p.1, p.2, refused, c.in_err-map.was) in
     let run = run_from c.args.table.now c.runs.page c.run_len-count.result
     (Some c.in-Some.permission) c.in-Some.is c.run_len-count.ensures.same in
-    let after = ap (λ m. zeroed m (c.runs.page * 4096) (c.run_len-count.result * 4096) c.in-Some.permission)
+    let after = ap (λ m. zero_range m (c.runs.page * 4096) (c.run_len-count.result * 4096) c.in-Some.permission)
     c.runs.invariant.memory ∙ table_run c.args.table.now c.runs.page c.run_len-count.result c.in-Some.permission
     run in
     omega (
@@ -49,7 +49,7 @@ runs-preserved c = record {
         run_from c.args.table.now c.runs.page c.run_len-count.result
         (Some w.in-Some.permission) w.in-Some.is c.run_len-count.ensures.same in
         w.mem-is ∙ w.in_ok-map.ensures.ok
-        ∙ ap (λ m. zeroed m (c.runs.page * 4096) (c.run_len-count.result * 4096) w.in-Some.permission)
+        ∙ ap (λ m. zero_range m (c.runs.page * 4096) (c.run_len-count.result * 4096) w.in-Some.permission)
         c.runs.invariant.memory
         ∙ table_run c.args.table.now c.runs.page c.run_len-count.result w.in-Some.permission run)
     | in_default w ↦ w.mem-is ∙ c.runs.invariant.memory

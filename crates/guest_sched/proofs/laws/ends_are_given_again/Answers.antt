@@ -1,5 +1,5 @@
 use Rattle.std.proofs.Common.{refl}
-use Rattle.guest_sched.specs.Seen.{with_given}
+use Rattle.guest_sched.specs.Machine.{with_given}
 use Rattle.guest_sched.proofs.MachineLemmas.{ended_given, next_ended}
 use Rattle.guest_sched.proofs.laws.ends_are_given_again.Goals as goal
 

@@ -1,10 +1,10 @@
 use Rattle.std.proofs.Common.{◌≡◌, ◌≤◌, List, ℕ, length, take, ap, ◌∙◌}
-use Rattle.guest_mem.specs.Memory.{may, stored}
-use Rattle.guest_sys.specs.Vectors.{counting}
+use Rattle.guest_mem.specs.Memory.{may, store_at}
+use Rattle.guest_sys.specs.Vectors.{addresses_from}
 use Rattle.guest_sys.proofs.RowLemmas.{take-counting, length-counting}
 use Rattle.guest_sys.proofs.clock.put_random.Goals as goal
 
-front : (bytes : List ℕ) (n : ℕ) → bytes ≡ counting 0 256 → n ≤ 256 → take n bytes ≡ counting 0 n
+front : (bytes : List ℕ) (n : ℕ) → bytes ≡ addresses_from 0 256 → n ≤ 256 → take n bytes ≡ addresses_from 0 n
 front bytes n is h = ap (take n) is ∙ take-counting 0 256 n h
 
 pub returns-clause-allowed : goal.returns-clause-allowed
@@ -15,4 +15,4 @@ returns-clause-allowed c =
 
 pub returns-clause-after : goal.returns-clause-after
 returns-clause-after c = c.copy_in.ensures.after
-    ∙ ap (stored c.args.mem.now c.args.addr) (front _ _ c.random_bytes-bytes.ensures c.requires)
+    ∙ ap (store_at c.args.mem.now c.args.addr) (front _ _ c.random_bytes-bytes.ensures c.requires)

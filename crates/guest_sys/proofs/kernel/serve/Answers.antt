@@ -2,7 +2,7 @@ use Rattle.std.proofs.Common.{◌≡◌, ◌≤◌, Err, refl, ap, sym, subst, �
 use Rattle.event_costs.specs.declared.numbers.ThreadNo.{ThreadNo}
 use Rattle.guest_futex.specs.Waits.{times_waiting}
 use Rattle.guest_sys.specs.declared.effect.SysEnd.{SysEnd}
-use Rattle.guest_sys.specs.Sys.{sys, times_live}
+use Rattle.guest_sys.specs.Kernel.{kernel_of, times_live}
 use Rattle.guest_sys.specs.Common.{WhereRefused, number}
 use Rattle.guest_sys.specs.Table.{row_at}
 use Rattle.guest_sys.specs.CallRow.{Calls, call_row, caller_of}
@@ -26,44 +26,44 @@ apply-requires-clause-few c =
 pub returns-in-Some-clause-row : goal.returns-in-Some-clause-row
 returns-in-Some-clause-row c =
     calls_given c.in-Some.row
-    (sys c.args.guest.now c.args.waiters.now.waits) c.args.thread c.live_caller-caller.result c.apply.result
-    (sys c.apply.new.guest c.apply.new.waiters.waits)
+    (kernel_of c.args.guest.now c.args.waiters.now.waits) c.args.thread c.live_caller-caller.result c.apply.result
+    (kernel_of c.apply.new.guest c.apply.new.waiters.waits)
     c.live_caller-caller.ensures.found
     (ap row_at (sym c.number.ensures) ∙ sym c.row_of.ensures ∙ c.in-Some.is) c.apply.ensures
 
 pub returns-in-Some-clause-memory : goal.returns-in-Some-clause-memory
 returns-in-Some-clause-memory c =
     takes_given c.in-Some.row
-    (sys c.args.guest.now c.args.waiters.now.waits) c.args.thread c.live_caller-caller.result c.apply.result
-    (sys c.apply.new.guest c.apply.new.waiters.waits)
+    (kernel_of c.args.guest.now c.args.waiters.now.waits) c.args.thread c.live_caller-caller.result c.apply.result
+    (kernel_of c.apply.new.guest c.apply.new.waiters.waits)
     c.live_caller-caller.ensures.found
     (ap row_at (sym c.number.ensures) ∙ sym c.row_of.ensures ∙ c.in-Some.is) c.apply.ensures
 
 pub returns-in-Some-clause-killed : goal.returns-in-Some-clause-killed
 returns-in-Some-clause-killed c =
-    kept_killed c.live_caller-caller.result.thread.no (sys c.args.guest.now c.args.waiters.now.waits) c.apply.result
-    (sys c.apply.new.guest c.apply.new.waiters.waits)
-    (kept_given c.in-Some.row (sys c.args.guest.now c.args.waiters.now.waits) c.live_caller-caller.result
+    kept_killed c.live_caller-caller.result.thread.no (kernel_of c.args.guest.now c.args.waiters.now.waits) c.apply.result
+    (kernel_of c.apply.new.guest c.apply.new.waiters.waits)
+    (kept_given c.in-Some.row (kernel_of c.args.guest.now c.args.waiters.now.waits) c.live_caller-caller.result
     (number c.live_caller-caller.result) c.apply.result
-    (sys c.apply.new.guest c.apply.new.waiters.waits) c.live_caller-caller.ensures.caller c.apply.ensures)
+    (kernel_of c.apply.new.guest c.apply.new.waiters.waits) c.live_caller-caller.ensures.caller c.apply.ensures)
 
 pub returns-in-Some-clause-balance : goal.returns-in-Some-clause-balance
 returns-in-Some-clause-balance c =
     subst (λ (t : ThreadNo). IfOk c.apply.result
-    (λ e. IsBalanced t (sys c.args.guest.now c.args.waiters.now.waits) e
-    (sys c.apply.new.guest c.apply.new.waiters.waits)))
+    (λ e. IsBalanced t (kernel_of c.args.guest.now c.args.waiters.now.waits) e
+    (kernel_of c.apply.new.guest c.apply.new.waiters.waits)))
     c.live_caller-caller.ensures.number
-    (kept_balanced c.live_caller-caller.result.thread.no (sys c.args.guest.now c.args.waiters.now.waits) c.apply.result
-    (sys c.apply.new.guest c.apply.new.waiters.waits)
-    (kept_given c.in-Some.row (sys c.args.guest.now c.args.waiters.now.waits) c.live_caller-caller.result
+    (kept_balanced c.live_caller-caller.result.thread.no (kernel_of c.args.guest.now c.args.waiters.now.waits) c.apply.result
+    (kernel_of c.apply.new.guest c.apply.new.waiters.waits)
+    (kept_given c.in-Some.row (kernel_of c.args.guest.now c.args.waiters.now.waits) c.live_caller-caller.result
     (number c.live_caller-caller.result) c.apply.result
-    (sys c.apply.new.guest c.apply.new.waiters.waits) c.live_caller-caller.ensures.caller c.apply.ensures))
+    (kernel_of c.apply.new.guest c.apply.new.waiters.waits) c.live_caller-caller.ensures.caller c.apply.ensures))
 
 pub returns-in-Some-clause-lives : goal.returns-in-Some-clause-lives
 returns-in-Some-clause-lives c =
-    lives_given c.in-Some.row (sys c.args.guest.now c.args.waiters.now.waits) c.live_caller-caller.result
+    lives_given c.in-Some.row (kernel_of c.args.guest.now c.args.waiters.now.waits) c.live_caller-caller.result
     (number c.live_caller-caller.result) c.apply.result
-    (sys c.apply.new.guest c.apply.new.waiters.waits) c.live_caller-caller.ensures.caller c.apply.ensures
+    (kernel_of c.apply.new.guest c.apply.new.waiters.waits) c.live_caller-caller.ensures.caller c.apply.ensures
     c.requires.lives
     (subst (λ (t : ThreadNo). times_waiting t c.args.waiters.now.waits ≡ 0)
     (sym c.live_caller-caller.ensures.number) c.requires.runs)
@@ -72,16 +72,16 @@ returns-in-Some-clause-lives c =
 
 pub returns-in-None-clause-memory : goal.returns-in-None-clause-memory
 returns-in-None-clause-memory c =
-    subst (λ (e : SysEnd). WhereRefused (Err e) (CallTakes (sys c.args.guest.now c.args.waiters.now.waits)
+    subst (λ (e : SysEnd). WhereRefused (Err e) (CallTakes (kernel_of c.args.guest.now c.args.waiters.now.waits)
     (caller_of c.args.thread c.args.guest.now.threads))) (sym c.unsupported.ensures) (tt {0})
 
 pub returns-in-None-clause-row : goal.returns-in-None-clause-row
 returns-in-None-clause-row c =
-    subst (λ (e : SysEnd). Calls (call_row (sys c.args.guest.now c.args.waiters.now.waits) c.args.thread)
-    (sys c.args.guest.now c.args.waiters.now.waits) (Err e) (sys c.args.guest.now c.args.waiters.now.waits))
+    subst (λ (e : SysEnd). Calls (call_row (kernel_of c.args.guest.now c.args.waiters.now.waits) c.args.thread)
+    (kernel_of c.args.guest.now c.args.waiters.now.waits) (Err e) (kernel_of c.args.guest.now c.args.waiters.now.waits))
     (sym c.unsupported.ensures) (
       calls_none
-          (sys c.args.guest.now c.args.waiters.now.waits) c.args.thread c.live_caller-caller.result
+          (kernel_of c.args.guest.now c.args.waiters.now.waits) c.args.thread c.live_caller-caller.result
           c.live_caller-caller.ensures.found
           (ap row_at (sym c.number.ensures) ∙ sym c.row_of.ensures ∙ c.in-None.is),
       refl,

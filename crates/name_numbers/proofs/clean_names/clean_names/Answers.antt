@@ -1,7 +1,7 @@
 use Rattle.std.proofs.Common.{◌≡◌, ◌-◌, ◌+◌, ◌++◌, ◌∷◌, [], List, ℕ, length, map, ap, subst, ◌∙◌, arith}
 use Rattle.std.specs.Prelude.{slice_get}
 use Rattle.std.proofs.lemmas.List.{get_or_default, length_push}
-use Rattle.byte_text.specs.Names.{cleaned}
+use Rattle.byte_text.specs.Names.{clean_name}
 use Rattle.byte_text.specs.Names.{unknown as unknown_name}
 use Rattle.name_numbers.specs.Keys.{NumberEach}
 use Rattle.name_numbers.specs.Texts.{texts_at}
@@ -21,12 +21,12 @@ clean_texts-requires c =
 pub returns-clause-each : goal.returns-clause-each
 returns-clause-each c =
     let bytes = c.clean_texts.new.bytes.items in
-    let all : List (List ℕ) = map cleaned c.args.names.now in
+    let all : List (List ℕ) = map clean_name c.args.names.now in
     let keys = texts_at bytes c.in_ok-places-2.field-0.keys.items in
     let numbers = c.in_ok-places-2.field-0.numbers.items in
     let texts : texts_at bytes c.in_ok-places.places.items ≡ all ++ unknown_name ∷ [] =
     c.in_ok-places.ensures.texts
-    ∙ ap (λ (ns : List (List ℕ)). map cleaned ns ++ unknown_name ∷ [])
+    ∙ ap (λ (ns : List (List ℕ)). map clean_name ns ++ unknown_name ∷ [])
     (ap (texts_at c.names.inside.file.now) c.deref-2.ensures.value ∙ c.names.view_is) in
     let so = subst (NumberEach keys numbers) texts (rw c.deref-3.ensures.value at c.in_ok-places-2.ensures.each) in
     let wide : length (all ++ unknown_name ∷ []) ≡ length all + 1 = length_push all unknown_name in
@@ -37,12 +37,12 @@ returns-clause-each c =
 pub returns-clause-unknown : goal.returns-clause-unknown
 returns-clause-unknown c =
     let bytes = c.clean_texts.new.bytes.items in
-    let all : List (List ℕ) = map cleaned c.args.names.now in
+    let all : List (List ℕ) = map clean_name c.args.names.now in
     let keys = texts_at bytes c.in_ok-places-2.field-0.keys.items in
     let numbers = c.in_ok-places-2.field-0.numbers.items in
     let texts : texts_at bytes c.in_ok-places.places.items ≡ all ++ unknown_name ∷ [] =
     c.in_ok-places.ensures.texts
-    ∙ ap (λ (ns : List (List ℕ)). map cleaned ns ++ unknown_name ∷ [])
+    ∙ ap (λ (ns : List (List ℕ)). map clean_name ns ++ unknown_name ∷ [])
     (ap (texts_at c.names.inside.file.now) c.deref-2.ensures.value ∙ c.names.view_is) in
     let so = subst (NumberEach keys numbers) texts (rw c.deref-3.ensures.value at c.in_ok-places-2.ensures.each) in
     let wide : length (all ++ unknown_name ∷ []) ≡ length all + 1 = length_push all unknown_name in

@@ -1,6 +1,6 @@
 use Rattle.std.proofs.Common.{◌++◌, ◌∷◌, [], get_or, map, sym, ap, subst, ◌∙◌}
 use Rattle.std.proofs.lemmas.List.{take_all}
-use Rattle.byte_text.specs.Names.{cleaned}
+use Rattle.byte_text.specs.Names.{clean_name}
 use Rattle.byte_text.specs.Names.{unknown as unknown_name}
 use Rattle.name_numbers.specs.inner.CleanNames.{Grows}
 use Rattle.name_numbers.specs.inner.Places.{nowhere}
@@ -17,12 +17,12 @@ names-preserved c =
     let bytes = c.push_clean.new.bytes.items in
     let made = c.in_ok-push_clean.ensures in
     let both = pushed before bytes made.grown c.names.places.items so.in_file c.in_ok-push_clean.field-0 made.in_file
-    (cleaned (text_at file place)) made.text in
+    (clean_name (text_at file place)) made.text in
     rw c.in_ok-push.ensures.items (record {
       printed_part = printed_grown file c.args.part before bytes made.grown
           (printed_long file c.args.part before c.requires.in_file so.printed_part) so.printed_part;
       in_file = both.0;
-      texts = both.1 ∙ ap (λ xs. xs ++ cleaned (text_at file place) ∷ []) so.texts
+      texts = both.1 ∙ ap (λ xs. xs ++ clean_name (text_at file place) ∷ []) so.texts
           ∙ cleaned_more file c.args.names.now c.names.place-index nowhere c.names-test.true;
     })
 
@@ -37,4 +37,4 @@ returns-clause-texts c =
     c.names.places.items so.in_file c.in_ok-push_text.field-0 made.in_file unknown_name made.text in
     rw c.in_ok-push-2.ensures.items
     (both.1 ∙ ap (λ xs. xs ++ unknown_name ∷ []) (so.texts
-    ∙ ap (λ ns. map cleaned (texts_at file ns)) (take_all c.names.place-index c.args.names.now c.names-test.false)))
+    ∙ ap (λ ns. map clean_name (texts_at file ns)) (take_all c.names.place-index c.args.names.now c.names-test.false)))

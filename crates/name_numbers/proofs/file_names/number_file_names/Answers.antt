@@ -1,6 +1,6 @@
 use Rattle.std.proofs.Common.{arith}
 use Rattle.std.proofs.lemmas.List.{length-map}
-use Rattle.byte_text.specs.Names.{cleaned}
+use Rattle.byte_text.specs.Names.{clean_name}
 use Rattle.name_numbers.specs.Texts.{text_at, texts_at}
 use Rattle.name_numbers.proofs.FileNameKeys.{ranks_within, are_numbered}
 use Rattle.name_numbers.proofs.file_names.number_file_names.Goals as goal
@@ -11,7 +11,7 @@ clean_keys-requires c =
     (λ k d lt.
     let below = c.requires k d lt in
     let many = c.in_ok-bytes.ensures.each.as_many in
-    let long = length-map c.args.names.now cleaned in
+    let long = length-map c.args.names.now clean_name in
     omega (arith, below, many, long))
 
 pub names_at-requires-clause-ranks : goal.names_at-requires-clause-ranks

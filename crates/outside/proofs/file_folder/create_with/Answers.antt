@@ -8,7 +8,7 @@ returns-in_err-count-clause-written g c =
     let place = c.pieces.invariant in
     written_refused (g.C.FileCalls.disk c.args.calls.now) (g.C.FileCalls.disk c.pieces.calls)
     (g.C.FileCalls.disk c.write.new.self) c.args.name.now c.args.bytes.now _ c.pieces.rest.now
-    (g.C.FileCalls.seen c.pieces.file) (g.C.FileCalls.seen c.write.new.file) c.in_err-count.field-0.0
+    (g.C.FileCalls.open_file c.pieces.file) (g.C.FileCalls.open_file c.write.new.file) c.in_err-count.field-0.0
     c.from_residual-in_err-count.result c.from_residual-in_err-count.ensures.1 place.3 c.in_err-count.ensures.writes
 
 pub pieces-preserved : goal.pieces-preserved
@@ -22,6 +22,6 @@ pieces-preserved g c =
       rest_of_rest bytes rest place.0 count place.2,
       written_more (g.C.FileCalls.disk c.args.calls.now) (g.C.FileCalls.disk c.pieces.calls)
           (g.C.FileCalls.disk c.write.new.self) c.args.name.now bytes rest place.0 count
-          (g.C.FileCalls.seen c.pieces.file) (g.C.FileCalls.seen c.write.new.file) place.2 place.3
+          (g.C.FileCalls.open_file c.pieces.file) (g.C.FileCalls.open_file c.write.new.file) place.2 place.3
           c.in_ok-count.ensures.writes c.write.ensures.goes_on,
     )

@@ -8,7 +8,7 @@ invariant-pieces g l = record {
   room : 0 < length l.room.items;
   within : length l.bytes.items ≤ l.limit + 1;
   read : Tell (g.C.FileCalls.disk l.fn.calls) (g.C.FileCalls.disk l.calls)
-      (HasRead (g.C.FileCalls.seen l.fn.file).left l.bytes.items (g.C.FileCalls.seen l.file));
+      (HasRead (g.C.FileCalls.open_file l.fn.file).rest l.bytes.items (g.C.FileCalls.open_file l.file));
 }
 
 abbrev pub decreases-pieces : goal.decreases-pieces

@@ -1,7 +1,7 @@
 use Rattle.std.proofs.Common.{◌+◌, ◌-◌, ◌<◌, ◌++◌, length-drop, ◌∷◌, [], Ok, false, refl, sym, subst, ◌∙◌, length, drop, arith}
 use Rattle.std.proofs.lemmas.List.{take_all}
 use Rattle.outside.proofs.WriteLemmas.{taken_goes_on, rest_of_rest, count_within}
-use Rattle.outside.proofs.ToldLemmas.{AreTaken, all_taken, is_nothing, is_something, taken_on, tells_nothing_more, tells_refused, tells_then}
+use Rattle.outside.proofs.JournalLemmas.{AreTaken, all_taken, is_nothing, is_something, taken_on, tells_nothing_more, tells_refused, tells_then}
 use Rattle.outside.proofs.WriteLemmas.{taken_nothing}
 use Rattle.outside.proofs.sink.write_all.Goals as goal
 

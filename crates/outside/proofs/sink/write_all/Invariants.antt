@@ -1,7 +1,7 @@
 use Rattle.std.proofs.Common.{◌≡◌, ◌≤◌, ℕ, List, length, take, drop}
-use Rattle.outside.specs.Told.{TellsMore, Wrote}
+use Rattle.outside.specs.Journal.{TellsMore, Wrote}
 use Rattle.outside.specs.Write.{taken_more}
-use Rattle.outside.proofs.ToldLemmas.{AreTaken}
+use Rattle.outside.proofs.JournalLemmas.{AreTaken}
 use Rattle.outside.proofs.sink.write_all.Given as goal
 
 abbrev pub invariant-pieces : goal.invariant-pieces

@@ -1,6 +1,6 @@
 use Rattle.std.proofs.Common.{ℕ, List, [], ◌∷◌, Err, inr, refl, subst, ◌∙◌}
 use Rattle.outside.specs.Outside.{shelf_of}
-use Rattle.outside.specs.Told.{Put}
+use Rattle.outside.specs.Journal.{Put}
 use Rattle.outside.specs.declared.folder.PutError.TheVariants.{OutOfMemory}
 use Rattle.part_dump.specs.Dumps.{Dumps}
 use Rattle.part_dump.specs.declared.dumping.DumpError.TheVariants as dump

@@ -1,5 +1,5 @@
 use Rattle.std.proofs.Common.{Ok, Err, refl, sym, ap, ◌∙◌}
-use Rattle.profile_run.specs.Runs.{Ended}
+use Rattle.profile_run.specs.Runs.{RunEnd}
 use Rattle.profile_cli.proofs.OwnReportLemmas.{Works-ended, Works-report_exit, Works-reported, Works-unread_parts}
 use Rattle.profile_cli.proofs.OwnReportLemmas.{of_parts}
 use Rattle.profile_cli.proofs.StageLemmas.{did_quietly, then_goes, then_stops}
@@ -18,7 +18,7 @@ returns-in_err-profile-clause-works g c =
     c.from_residual-in_err-profile.ensures.1
     (Works-unread_parts _ _ _ _ c.in_ok-run.run' c.in_ok-run.ensures.ran _ c.in_err-profile.field-0.0
     (of_parts _ _ _ _ _ c.in_ok-run.run'.parts c.deref.result.now (Err c.in_err-profile.field-0.0)
-    (c.deref.ensures.value ∙ ap (λ (r : Ended). r.parts) c.run.view_is) c.in_err-profile.ensures.answer)
+    (c.deref.ensures.value ∙ ap (λ (r : RunEnd). r.parts) c.run.view_is) c.in_err-profile.ensures.answer)
     c.read_parts.ensures.same_contents refl refl c.run_parts.ensures.load_faults_never_fall
     c.read_parts.ensures.never_falls)
 
@@ -29,7 +29,7 @@ returns-in_err-show_report-clause-works g c =
     (Works-reported _ _ _ _ c.in_ok-run.run' c.in_ok-run.ensures.ran _ _ c.in_ok-profile.profile
     (Err c.in_err-show_report.field-0.0)
     (of_parts _ _ _ _ _ c.in_ok-run.run'.parts c.deref.result.now (Ok c.in_ok-profile.profile)
-    (c.deref.ensures.value ∙ ap (λ (r : Ended). r.parts) c.run.view_is) c.in_ok-profile.ensures.answer)
+    (c.deref.ensures.value ∙ ap (λ (r : RunEnd). r.parts) c.run.view_is) c.in_ok-profile.ensures.answer)
     c.in_ok-profile.ensures.profile c.in_ok-profile.ensures.events c.requires.sort c.read_parts.ensures.same_contents refl refl
     c.run_parts.ensures.load_faults_never_fall c.read_parts.ensures.never_falls c.show_report.ensures.never_falls
     c.run_parts.ensures.out_faults_never_fall (c.in_err-show_report.ensures.report _))
@@ -40,7 +40,7 @@ returns-clause-works g c =
     (Works-reported _ _ _ _ c.in_ok-run.run' c.in_ok-run.ensures.ran _ _ c.in_ok-profile.profile
     (Ok c.in_ok-show_report.field-0)
     (of_parts _ _ _ _ _ c.in_ok-run.run'.parts c.deref.result.now (Ok c.in_ok-profile.profile)
-    (c.deref.ensures.value ∙ ap (λ (r : Ended). r.parts) c.run.view_is) c.in_ok-profile.ensures.answer)
+    (c.deref.ensures.value ∙ ap (λ (r : RunEnd). r.parts) c.run.view_is) c.in_ok-profile.ensures.answer)
     c.in_ok-profile.ensures.profile c.in_ok-profile.ensures.events c.requires.sort c.read_parts.ensures.same_contents refl refl
     c.run_parts.ensures.load_faults_never_fall c.read_parts.ensures.never_falls c.show_report.ensures.never_falls
     c.run_parts.ensures.out_faults_never_fall (c.in_ok-show_report.ensures.report _))
@@ -52,21 +52,21 @@ returns-in_err-run-clause-told g c =
 pub returns-in_err-profile-clause-told : goal.returns-in_err-profile-clause-told
 returns-in_err-profile-clause-told g c =
     ended_exit _ _ _ c.from_residual-in_err-profile.result c.from_residual-in_err-profile.ensures.1
-    (then_goes _ _ _ _ _ c.in_ok-run.ensures.ran.told
+    (then_goes _ _ _ _ _ c.in_ok-run.ensures.ran.did
     (then_stops _ _ _ (read_of _ _ c.in_ok-run.run'.parts c.deref.result.now _
-    (c.deref.ensures.value ∙ ap (λ (r : Ended). r.parts) c.run.view_is) (c.in_err-profile.ensures.told _ _))))
+    (c.deref.ensures.value ∙ ap (λ (r : RunEnd). r.parts) c.run.view_is) (c.in_err-profile.ensures.told _ _))))
 
 pub returns-in_err-show_report-clause-told : goal.returns-in_err-show_report-clause-told
 returns-in_err-show_report-clause-told g c =
     ended_exit _ _ _ c.from_residual-in_err-show_report.result c.from_residual-in_err-show_report.ensures.1
-    (then_goes _ _ _ _ _ c.in_ok-run.ensures.ran.told
+    (then_goes _ _ _ _ _ c.in_ok-run.ensures.ran.did
     (then_goes _ _ _ c.in_ok-profile.profile _ (read_of _ _ c.in_ok-run.run'.parts c.deref.result.now _
-    (c.deref.ensures.value ∙ ap (λ (r : Ended). r.parts) c.run.view_is) (c.in_ok-profile.ensures.told _ _))
+    (c.deref.ensures.value ∙ ap (λ (r : RunEnd). r.parts) c.run.view_is) (c.in_ok-profile.ensures.told _ _))
     (then_stops _ _ _ (c.in_err-show_report.ensures.told _))))
 
 pub returns-clause-told : goal.returns-clause-told
 returns-clause-told g c =
-    told_reported _ _ _ _ _ _ c.in_ok-run.run' _ (sym c.run.view_is) c.in_ok-run.ensures.ran.told
+    told_reported _ _ _ _ _ _ c.in_ok-run.run' _ (sym c.run.view_is) c.in_ok-run.ensures.ran.did
     (then_goes _ _ _ c.in_ok-profile.profile _ (read_of _ _ c.in_ok-run.run'.parts c.deref.result.now _
-    (c.deref.ensures.value ∙ ap (λ (r : Ended). r.parts) c.run.view_is) (c.in_ok-profile.ensures.told _ _))
+    (c.deref.ensures.value ∙ ap (λ (r : RunEnd). r.parts) c.run.view_is) (c.in_ok-profile.ensures.told _ _))
     (then_goes _ _ _ c.in_ok-show_report.field-0 _ (c.in_ok-show_report.ensures.told _) (did_quietly _ _ refl)))

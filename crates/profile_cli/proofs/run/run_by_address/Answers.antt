@@ -3,7 +3,7 @@ use Rattle.profile_cli.specs.Words.{program_of}
 use Rattle.profile_cli.proofs.OutsideLemmas.{Leaves-nothing}
 use Rattle.profile_cli.proofs.StageLemmas.{did_quietly, load_named, program_then, then_goes, then_stops}
 use Rattle.profile_cli.proofs.WorkLemmas.{IsRead-both, RunsJob-elf, RunsJob-exit, Stops-input_refused}
-use Rattle.profile_cli.proofs.WorkLemmas.{Stops-not_loaded, Stops-refused, equal_counts, loaded, same_count}
+use Rattle.profile_cli.proofs.WorkLemmas.{Stops-not_loaded, Stops-refused, equal_counts, load_later, same_count}
 use Rattle.profile_cli.proofs.run.run_by_address.Goals as goal
 
 abbrev program_in : List (String Global) → List ℕ
@@ -21,7 +21,7 @@ pub returns-in_err-image-clause-ran : goal.returns-in_err-image-clause-ran
 returns-in_err-image-clause-ran g c =
     RunsJob-exit _ _ _ _ _ _ c.from_residual-in_err-image.result c.from_residual-in_err-image.ensures.1
     (Stops-refused _ _ _ c.deref-2.result.now _
-    (loaded _ c.program_name.result.now _ _ _ _ c.in_ok-bytes.bytes c.deref-2.result.now
+    (load_later _ c.program_name.result.now _ _ _ _ c.in_ok-bytes.bytes c.deref-2.result.now
     (c.program_name.ensures ∙ ap program_in c.deref.ensures.value) c.deref-2.ensures.value (same_count _)
     c.in_ok-bytes.ensures.answer)
     c.in_err-image.ensures (Leaves-nothing _ _ c.load_file.ensures.same_contents refl refl))
@@ -35,7 +35,7 @@ returns-in_err-given-clause-ran g c =
     RunsJob-exit _ _ _ _ _ _ c.from_residual-in_err-given.result c.from_residual-in_err-given.ensures.1
     (Stops-input_refused _ _ _ c.deref-2.result.now c.in_ok-image.image _ (folder.contents c.load_file.new.folder)
     (folder.load_faults c.load_file.new.folder)
-    (loaded _ c.program_name.result.now _ _ _ _ c.in_ok-bytes.bytes c.deref-2.result.now
+    (load_later _ c.program_name.result.now _ _ _ _ c.in_ok-bytes.bytes c.deref-2.result.now
     (c.program_name.ensures ∙ ap program_in c.deref.ensures.value) c.deref-2.ensures.value (same_count _)
     c.in_ok-bytes.ensures.answer)
     c.in_ok-image.ensures c.load_file.ensures.same_contents c.load_file.ensures.never_falls
@@ -52,7 +52,7 @@ returns-clause-ran g c =
     RunsJob-elf _ _ _ _ _ _ c.deref-2.result.now c.in_ok-given.given.items c.in_ok-image.image c.run_elf_by_address.result
     (IsRead-both _ _ _ c.deref-2.result.now c.in_ok-image.image c.in_ok-given.given (folder.contents c.load_file.new.folder)
     (folder.load_faults c.load_file.new.folder) (folder.load_faults c.load_input.new.folder)
-    (loaded _ c.program_name.result.now _ _ _ _ c.in_ok-bytes.bytes c.deref-2.result.now
+    (load_later _ c.program_name.result.now _ _ _ _ c.in_ok-bytes.bytes c.deref-2.result.now
     (c.program_name.ensures ∙ ap program_in c.deref.ensures.value) c.deref-2.ensures.value (same_count _)
     c.in_ok-bytes.ensures.answer)
     c.in_ok-image.ensures c.load_file.ensures.same_contents c.load_file.ensures.never_falls

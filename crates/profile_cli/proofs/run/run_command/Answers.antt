@@ -15,7 +15,7 @@ pub returns-in-Ok-run_parts-clause-told : goal.returns-in-Ok-run_parts-clause-to
 returns-in-Ok-run_parts-clause-told g c =
     told_run _ _ _ _ c.in-Ok-run_parts.run' _ c.from-in-Ok-run_parts.result
     (quiet_puts _ c.in_default.not-Waits _) c.from-in-Ok-run_parts.ensures c.run.view_is
-    c.in-Ok-run_parts.ensures.ran.told
+    c.in-Ok-run_parts.ensures.ran.did
 
 pub returns-in-Err-run_parts-clause-told : goal.returns-in-Err-run_parts-clause-told
 returns-in-Err-run_parts-clause-told g c = told_run_stopped _ _ _ _ c.in-Err-run_parts.ensures.ran.1

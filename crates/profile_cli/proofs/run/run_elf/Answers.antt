@@ -1,6 +1,6 @@
 use Rattle.std.proofs.Common.{String, Global, List, ap, inl, inr, map, refl, string_bytes}
-use Rattle.command_words.specs.Requests.{job_of}
-use Rattle.profile_cli.proofs.RunLemmas.{IsTold-guest, RunsGuest-ran, RunsGuest-refused}
+use Rattle.command_words.specs.Meaning.{job_of}
+use Rattle.profile_cli.proofs.RunLemmas.{HasWatched-guest, RunsGuest-ran, RunsGuest-refused}
 use Rattle.profile_cli.proofs.run.run_elf.Goals as goal
 
 pub returns-in_err-syms-clause-ran : goal.returns-in_err-syms-clause-ran
@@ -16,9 +16,9 @@ returns-in-Ok-clause-ran g c =
       syms = c.in_ok-syms.syms;
       symbols = c.in_ok-syms.ensures.map;
       sound = c.in_ok-syms.ensures.sound;
-      so = IsTold-guest g.W.Watch.meaning _ _ (job_of c.args.job.now) _ c.in_ok-syms.syms _ _ _ args
+      so = HasWatched-guest g.W.Watch.meaning _ _ (job_of c.args.job.now) _ c.in_ok-syms.syms _ _ _ args
           c.in_ok-options.ensures c.in-Ok.ensures.watched;
-      ran = RunsGuest-ran _ _ _ _ _ _ _ _ _ _ args c.in_ok-options.ensures c.in-Ok.ensures.answer;
+      run = RunsGuest-ran _ _ _ _ _ _ _ _ _ _ args c.in_ok-options.ensures c.in-Ok.ensures.answer;
     })
 
 pub returns-clause-ran : goal.returns-clause-ran
@@ -28,7 +28,7 @@ returns-clause-ran g c =
       symbols = c.in_ok-syms.ensures.map;
       sound = c.in_ok-syms.ensures.sound;
       so = tt;
-      ran = RunsGuest-refused _ _ _ _ _ _ _ _ c.in-Err.fault _ _
+      run = RunsGuest-refused _ _ _ _ _ _ _ _ c.in-Err.fault _ _
           (ap (λ (args : List (String Global)). map (λ word. string_bytes word) args) c.deref.ensures.value)
           c.in_ok-options.ensures c.in-Err.ensures.answer c.fault_status.ensures;
     })

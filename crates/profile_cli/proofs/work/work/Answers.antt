@@ -1,5 +1,5 @@
 use Rattle.std.proofs.Common.{ap, inr, refl, sym, ◌∙◌}
-use Rattle.command_words.specs.Requests.{meaning_of}
+use Rattle.command_words.specs.Meaning.{meaning_of}
 use Rattle.profile_cli.proofs.WorkLemmas.{Works-annotated, Works-demonstrated, Works-unread, Works-usage, size_within}
 use Rattle.profile_cli.proofs.WorkLemmas.{some_named}
 use Rattle.profile_cli.proofs.TellLemmas.{told_usage}

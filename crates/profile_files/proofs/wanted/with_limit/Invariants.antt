@@ -1,5 +1,5 @@
 use Rattle.std.proofs.Common.{◌≡◌, take, map, string_bytes}
-use Rattle.profile_files.specs.Wanted.{with_limit}
+use Rattle.profile_files.specs.WantedFile.{with_limit}
 use Rattle.profile_files.proofs.wanted.with_limit.Given as goal
 
 abbrev pub invariant-names : goal.invariant-names

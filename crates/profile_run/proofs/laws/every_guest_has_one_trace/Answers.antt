@@ -1,7 +1,7 @@
 use Rattle.std.proofs.Common.{arith, [], refl}
 use Rattle.event_costs.proofs.RunLemmas.{IsTrace-same}
-use Rattle.profile_run.specs.Guest.{first_machine}
-use Rattle.profile_run.specs.Trace.{going, start}
+use Rattle.profile_run.specs.Program.{first_machine}
+use Rattle.profile_run.specs.Trace.{next_step, start}
 use Rattle.profile_run.proofs.TraceLemmas.{goes_on}
 use Rattle.profile_run.proofs.laws.every_guest_has_one_trace.Goals as goal
 
@@ -12,4 +12,4 @@ returns-clause-some c = λ guest.
 
 pub returns-clause-one : goal.returns-clause-one
 returns-clause-one c = λ guest trace other stop end a b.
-    IsTrace-same (going guest) (start guest) trace other stop end a b
+    IsTrace-same (next_step guest) (start guest) trace other stop end a b

@@ -1,7 +1,7 @@
 use Rattle.std.proofs.Common.{◌+◌, ap}
 use Rattle.outside.specs.Outside.{outside_with, stream_of}
-use Rattle.guest_sched.specs.Seen.{Seen}
-use Rattle.profile_run.specs.Guest.{Options}
+use Rattle.guest_sched.specs.Machine.{Machine}
+use Rattle.profile_run.specs.Program.{Options}
 use Rattle.profile_run.proofs.AdvanceLemmas as adv
 use Rattle.profile_run.proofs.running.advance.Goals as goal
 
@@ -9,7 +9,7 @@ pub returns-then-is_over : goal.returns-then-is_over
 returns-then-is_over g c =
     adv.ends_at g.W.Watch.meaning c.requires.1.1.1.1.0 c.requires.1.1.1.1.1 c.options.inside.budget
     (ap (λ (o : Options). o.budget) c.options.view_is) c.is_over.result c.is_over.ensures.over c.if-is_over.true
-    c.end_before-end.result c.end_before-end.ensures (c.args.begun.now.counting.machine.whole.sys.guest.steps + 1)
+    c.end_before-end.result c.end_before-end.ensures (c.args.begun.now.counting.machine.engine.kernel.guest.steps + 1)
 
 pub begin-requires : goal.begin-requires
 begin-requires g c =
@@ -46,9 +46,9 @@ run_stretch-requires g c =
 pub returns : goal.returns
 returns g c =
     let m = g.W.Watch.meaning in
-    adv.advances_as m g.job (c.begin.new.self.machine.whole.sys.guest.steps + 1)
-    (c.args.begun.now.counting.machine.whole.sys.guest.steps + 1)
-    (ap (λ (x : Seen). x.whole.sys.guest.steps + 1) c.begin.ensures.machine) c.run_stretch.result
+    adv.advances_as m g.job (c.begin.new.self.machine.engine.kernel.guest.steps + 1)
+    (c.args.begun.now.counting.machine.engine.kernel.guest.steps + 1)
+    (ap (λ (x : Machine). x.engine.kernel.guest.steps + 1) c.begin.ensures.machine) c.run_stretch.result
     c.run_stretch.new.begun.counting
     c.run_stretch.new.begun.parts c.run_stretch.new.watch
     (outside_with g.F.Folder c.run_stretch.new.folder

@@ -1,12 +1,12 @@
 use Rattle.std.proofs.Common.{map}
 use Rattle.std.specs.Prelude.{string_bytes}
-use Rattle.profile_run.specs.Guest.{Guest}
+use Rattle.profile_run.specs.Program.{Program}
 use Rattle.profile_run.proofs.PlainLemmas.{plain_answers}
 use Rattle.profile_run.proofs.running.run.Goals as goal
 
 pub returns-clause-answer : goal.returns-clause-answer
 returns-clause-answer g c =
-    let guest : Guest =
+    let guest : Program =
     record {
       image = c.args.elf.now;
       syms = c.args.syms.now;

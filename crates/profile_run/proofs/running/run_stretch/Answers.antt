@@ -1,7 +1,7 @@
 use Rattle.std.proofs.Common.{◌+◌, Ok, sym, ap, ◌∙◌, arith}
 use Rattle.outside.specs.Outside.{outside_with, stream_of}
-use Rattle.part_dump.specs.Cuts.{Asked, every_cut}
-use Rattle.profile_run.specs.Guest.{Options}
+use Rattle.part_dump.specs.Cuts.{DumpPoints, every_cut}
+use Rattle.profile_run.specs.Program.{Options}
 use Rattle.profile_run.proofs.AdvanceLemmas as adv
 use Rattle.profile_run.proofs.StretchLemmas as stretch
 use Rattle.profile_run.proofs.running.run_stretch.Goals as goal
@@ -24,9 +24,9 @@ steps-init g c =
             let within = more.budget in
             omega (arith, within, same));
         uncut = λ n above within.
-            ap (λ (a : Asked). every_cut a.every n) (sym c.requires.1.1.1.1.0.rule.said) ∙ more.uncut n above within;
+            ap (λ (a : DumpPoints). every_cut a.every n) (sym c.requires.1.1.1.1.0.rule.said) ∙ more.uncut n above within;
       };
-      made = adv.same_count c.args.begun.now.counting.machine.whole.sys.guest.steps;
+      made = adv.same_count c.args.begun.now.counting.machine.engine.kernel.guest.steps;
     }
 
 pub step-requires : goal.step-requires
@@ -53,7 +53,7 @@ steps-preserved g c =
     (stream_of g.E.Sink new.err) in
     let on =
     stretch.goes g.W.Watch.meaning g.job c.args.order.now.options.now c.steps.more
-    (c.steps.begun.counting.machine.whole.sys.guest.steps + 1) new.begun.counting new.begun.parts new.watch now
+    (c.steps.begun.counting.machine.engine.kernel.guest.steps + 1) new.begun.counting new.begun.parts new.watch now
     c.in_ok-stepped.stepped
     c.in-Lasts.is c.in_ok-stepped.ensures in
     let before = c.steps.invariant.made in
@@ -69,11 +69,11 @@ returns-in-Ends g c =
     (stream_of g.O.Sink new.out)
     (stream_of g.E.Sink new.err) in
     let before = c.steps.invariant.made in
-    adv.advances_past m g.job (c.args.begun.now.counting.machine.whole.sys.guest.steps + 1)
-    (c.steps.begun.counting.machine.whole.sys.guest.steps + 1) (omega (arith, before)) (Ok c.in-Ends.over)
+    adv.advances_past m g.job (c.args.begun.now.counting.machine.engine.kernel.guest.steps + 1)
+    (c.steps.begun.counting.machine.engine.kernel.guest.steps + 1) (omega (arith, before)) (Ok c.in-Ends.over)
     new.begun.counting
     new.begun.parts new.watch now
     (stretch.ends m g.job c.args.order.now.options.now c.steps.more
-    (c.steps.begun.counting.machine.whole.sys.guest.steps + 1)
+    (c.steps.begun.counting.machine.engine.kernel.guest.steps + 1)
     new.begun.counting new.begun.parts new.watch now c.in_ok-stepped.stepped c.in-Ends.over c.in-Ends.is
     c.in_ok-stepped.ensures)

@@ -13,7 +13,7 @@ invariant-steps g l = record {
       (outside_with g.F.Folder l.folder
       (stream_of g.O.Sink l.out) (stream_of g.E.Sink l.err));
   may : MayFollow l.order.options.now l.begun.counting.machine l.more;
-  made : l.fn.begun.counting.machine.whole.sys.guest.steps ≤ l.begun.counting.machine.whole.sys.guest.steps;
+  made : l.fn.begun.counting.machine.engine.kernel.guest.steps ≤ l.begun.counting.machine.engine.kernel.guest.steps;
 }
 
 -- the steps that may follow

@@ -14,7 +14,7 @@ put_segment-requires g c =
     (stream_of g.O.Sink c.advance.new.out)
     (stream_of g.E.Sink c.advance.new.err) in
     let e =
-    fin.ends m g.job (c.run.begun.counting.machine.whole.sys.guest.steps + 1) c.in_ok-over.over c.in-Some.end
+    fin.ends m g.job (c.run.begun.counting.machine.engine.kernel.guest.steps + 1) c.in_ok-over.over c.in-Some.end
     c.advance.new.begun.counting c.advance.new.begun.parts c.advance.new.watch now c.in-Some.is c.in_ok-over.ensures in
     fin.can_put m job e
 
@@ -27,7 +27,7 @@ returns-in_err-put_segment g c =
     (stream_of g.O.Sink c.advance.new.out)
     (stream_of g.E.Sink c.advance.new.err) in
     let e =
-    fin.ends m g.job (c.run.begun.counting.machine.whole.sys.guest.steps + 1) c.in_ok-over.over c.in-Some.end
+    fin.ends m g.job (c.run.begun.counting.machine.engine.kernel.guest.steps + 1) c.in_ok-over.over c.in-Some.end
     c.advance.new.begun.counting c.advance.new.begun.parts c.advance.new.watch now c.in-Some.is c.in_ok-over.ensures in
     let new =
     outside_with g.F.Folder c.put_segment.new.folder
@@ -57,7 +57,7 @@ returns-in-Some g c =
     (stream_of g.O.Sink c.advance.new.out)
     (stream_of g.E.Sink c.advance.new.err) in
     let e =
-    fin.ends m g.job (c.run.begun.counting.machine.whole.sys.guest.steps + 1) c.in_ok-over.over c.in-Some.end
+    fin.ends m g.job (c.run.begun.counting.machine.engine.kernel.guest.steps + 1) c.in_ok-over.over c.in-Some.end
     c.advance.new.begun.counting c.advance.new.begun.parts c.advance.new.watch now c.in-Some.is c.in_ok-over.ensures in
     let new =
     outside_with g.F.Folder c.put_segment.new.folder
@@ -84,9 +84,9 @@ run-smaller g c =
     (stream_of g.O.Sink c.advance.new.out)
     (stream_of g.E.Sink c.advance.new.err) in
     let goes =
-    fin.goes_on m g.job (c.run.begun.counting.machine.whole.sys.guest.steps + 1) c.in_ok-over.over
+    fin.goes_on m g.job (c.run.begun.counting.machine.engine.kernel.guest.steps + 1) c.in_ok-over.over
     c.advance.new.begun.counting
     c.advance.new.begun.parts c.advance.new.watch now c.in_default.is c.in_ok-over.ensures in
-    fin.fewer_left g.job.guest.options.budget c.run.begun.counting.machine.whole.sys.guest.steps
-    c.advance.new.begun.counting.machine.whole.sys.guest.steps
+    fin.fewer_left g.job.guest.options.budget c.run.begun.counting.machine.engine.kernel.guest.steps
+    c.advance.new.begun.counting.machine.engine.kernel.guest.steps
     (fin.within m g.job c.advance.new.begun.counting c.advance.new.begun.parts c.advance.new.watch now goes.0) goes.1

@@ -16,4 +16,4 @@ invariant-run g l = record {
 
 -- the steps that are left
 abbrev pub decreases-run : goal.decreases-run
-decreases-run g l = g.job.guest.options.budget - l.begun.counting.machine.whole.sys.guest.steps
+decreases-run g l = g.job.guest.options.budget - l.begun.counting.machine.engine.kernel.guest.steps

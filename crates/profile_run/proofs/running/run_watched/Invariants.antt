@@ -3,8 +3,8 @@ use Rattle.outside.specs.Outside.{outside_with, stream_of}
 use Rattle.profile_run.proofs.running.run_watched.Given as goal
 
 -- what is run, where the outside stands and what the watch is before it
-abbrev pub ghost-run_job : goal.ghost-run_job
-ghost-run_job g a = record {
+abbrev pub ghost-begin_and_run : goal.ghost-begin_and_run
+ghost-begin_and_run g a = record {
   guest = record {
     image = a.program.elf.now;
     syms = a.program.syms.now;

@@ -1,7 +1,7 @@
 use Rattle.std.proofs.Common.{◌≡◌, ◌+◌, Ok, Some, sym, subst}
 use Rattle.outside.specs.Outside.{outside_with, stream_of}
 use Rattle.event_costs.specs.declared.event.Event.{Event}
-use Rattle.guest_sched.specs.Seen.{running}
+use Rattle.guest_sched.specs.Machine.{running}
 use Rattle.profile_run.proofs.AdvanceLemmas as adv
 use Rattle.profile_run.proofs.StretchLemmas as stretch
 use Rattle.profile_run.proofs.running.step.Goals as goal
@@ -82,7 +82,7 @@ returns-in_err-over-in-Ok g c =
     stretch.written m job s makes count.new.self count.new.watch count.result.noted counted in
     let done = c.finish_step in
     stretch.refuses_on m g.job c.args.order.now.options.now c.args.more
-    (c.args.begun.now.counting.machine.whole.sys.guest.steps + 1)
+    (c.args.begun.now.counting.machine.engine.kernel.guest.steps + 1)
     done.new.begun.counting done.new.begun.parts done.new.watch
     (outside_with g.F.Folder done.new.folder out err) c.from_residual.result c.in_err-over-in-Ok.field-0.0
     c.from_residual.ensures.1 (c.in_err-over-in-Ok.ensures out err written)
@@ -101,8 +101,8 @@ returns-in_ok-over-in-Ok g c =
     let written =
     stretch.written m job s makes count.new.self count.new.watch count.result.noted counted in
     let done = c.finish_step in
-    adv.advances_as m g.job count.new.self.machine.whole.sys.guest.steps
-    (c.args.begun.now.counting.machine.whole.sys.guest.steps + 1)
+    adv.advances_as m g.job count.new.self.machine.engine.kernel.guest.steps
+    (c.args.begun.now.counting.machine.engine.kernel.guest.steps + 1)
     (adv.counts_on m job s makes count.new.self count.new.watch count.result.noted counted)
     (Ok c.in_ok-over-in-Ok.over) done.new.begun.counting done.new.begun.parts done.new.watch
     (outside_with g.F.Folder done.new.folder out err) (c.in_ok-over-in-Ok.ensures out err written)

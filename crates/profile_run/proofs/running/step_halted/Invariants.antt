@@ -1,4 +1,4 @@
 use Rattle.profile_run.proofs.running.step_halted.Given as goal
 
-abbrev pub ghost-halted_step : goal.ghost-halted_step
-ghost-halted_step g a = g.job
+abbrev pub ghost-step_halted_cold : goal.ghost-step_halted_cold
+ghost-step_halted_cold g a = g.job

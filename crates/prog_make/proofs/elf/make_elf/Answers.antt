@@ -1,6 +1,6 @@
 -- The bytes are those of a file that was made, which reads back.
 use Rattle.std.proofs.Common.{◌≡◌, rules}
-use Rattle.prog_make.specs.inner.Made.{file_of}
+use Rattle.prog_make.specs.inner.ElfFile.{file_of}
 use Rattle.prog_make.proofs.FullRead.{IsMade, is_made}
 use Rattle.prog_make.proofs.Fit.{parts_fit}
 use Rattle.prog_make.proofs.elf.make_elf.Goals as goal

@@ -1,5 +1,5 @@
 use Rattle.std.proofs.Common.{List, ap}
-use Rattle.shadow_stack.specs.Traces.{Counted, stack_of}
+use Rattle.shadow_stack.specs.Traces.{CountedEvent, stack_of}
 use Rattle.recorder.proofs.LawLemmas.{events_in, same_alone}
 use Rattle.recorder.proofs.laws.threads_are_isolated.Goals as goal
 
@@ -7,4 +7,4 @@ pub returns-clause-seen : goal.returns-clause-seen
 returns-clause-seen c = λ syms thread xs ys same. same_alone syms thread xs ys same
 
 pub returns-clause-stack : goal.returns-clause-stack
-returns-clause-stack c = λ syms thread xs ys pc same. ap (λ (es : List Counted). stack_of syms (events_in es) pc) same
+returns-clause-stack c = λ syms thread xs ys pc same. ap (λ (es : List CountedEvent). stack_of syms (events_in es) pc) same

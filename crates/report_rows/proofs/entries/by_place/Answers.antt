@@ -1,5 +1,5 @@
 use Rattle.std.proofs.Common.{take, sym, subst}
-use Rattle.report_rows.specs.Entries.{AreAtPlaces, said}
+use Rattle.report_rows.specs.Entries.{AreAtPlaces, entry_values}
 use Rattle.report_rows.proofs.EntryLemmas.{said_more}
 use Rattle.report_rows.proofs.entries.by_place.Goals as goal
 
@@ -9,4 +9,4 @@ entries-preserved c =
     let i = c.entries.entry-index in
     let es = c.args.entries.now in
     subst (λ ks. AreAtPlaces ks c.put_at.new.places) (sym (said_more es i e c.entries-test.true c.entry-item.is))
-    (c.in_ok-put_at.ensures (said (take i es)) c.entries.invariant)
+    (c.in_ok-put_at.ensures (entry_values (take i es)) c.entries.invariant)

@@ -3,7 +3,7 @@ use Rattle.std.specs.List.{filter}
 use Rattle.std.proofs.lemmas.List.Elements.{All-map}
 use Rattle.cg_read.specs.Profiles.{Contents, IsProfile}
 use Rattle.cg_read.specs.declared.rows.CallRow.{CallRow}
-use Rattle.report_rows.specs.Entries.{AreSaid, Keyed, call_entry, far_end, near_end, of_list, said}
+use Rattle.report_rows.specs.Entries.{HaveValues, EntryValue, call_entry, far_end, near_end, of_list, entry_values}
 use Rattle.report_rows.specs.declared.entries.End.{End}
 use Rattle.report_rows.specs.declared.entries.End.TheVariants.{Caller, Callee}
 use Rattle.report_rows.proofs.lists.call_lists.Goals as goal
@@ -33,10 +33,10 @@ lists_of-requires c =
     let p = c.args.profile.now in
     let same = c.profile.view_is in
     let profile = subst IsProfile same c.profile.invariant in
-    let is = ap said c.deref-2.ensures.value ∙ c.in_ok-entries.ensures
+    let is = ap entry_values c.deref-2.ensures.value ∙ c.in_ok-entries.ensures
     ∙ ap (map (call_entry c.args.places.now c.args.end))
     (c.deref.ensures.value ∙ ap (λ (q : Contents). q.call_rows) same) in
-    let P : Keyed → Type 0 = λ k. k.list < c.len.result in
+    let P : EntryValue → Type 0 = λ k. k.list < c.len.result in
     let count = ap (λ (q : Contents). length q.functions) same in
     subst (All P) (sym is) (All-map P (call_entry c.args.places.now c.args.end) p.call_rows (λ i d lt.
     let fit = profile.call_rows_fit i d lt in
@@ -47,11 +47,11 @@ pub returns : goal.returns
 returns c =
     let p = c.args.profile.now in
     let same = c.profile.view_is in
-    let is = ap said c.deref-2.ensures.value ∙ c.in_ok-entries.ensures
+    let is = ap entry_values c.deref-2.ensures.value ∙ c.in_ok-entries.ensures
     ∙ ap (map (call_entry c.args.places.now c.args.end))
     (c.deref.ensures.value ∙ ap (λ (q : Contents). q.call_rows) same) in
     let count : c.len.result ≡ length p.functions =
     omega (arith, c.len.ensures, ap (λ (q : Contents). length q.functions) same) in
-    subst (λ n. AreSaid n (λ k. filter (of_list k)
+    subst (λ n. HaveValues n (λ k. filter (of_list k)
     (map (call_entry c.args.places.now c.args.end) p.call_rows)) c.in_ok-lists.lists.items) count
-    (subst (λ ks. AreSaid c.len.result (λ k. filter (of_list k) ks) c.in_ok-lists.lists.items) is c.in_ok-lists.ensures)
+    (subst (λ ks. HaveValues c.len.result (λ k. filter (of_list k) ks) c.in_ok-lists.lists.items) is c.in_ok-lists.ensures)

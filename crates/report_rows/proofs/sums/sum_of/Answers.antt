@@ -1,6 +1,6 @@
 use Rattle.std.proofs.Common.{◌<◌, length, get_or, sym, ap, ◌∙◌, arith}
 use Rattle.std.proofs.lemmas.List.{take_all}
-use Rattle.report_rows.specs.Entries.{cost_of, said}
+use Rattle.report_rows.specs.Entries.{cost_of, entry_values}
 use Rattle.report_rows.proofs.SumLemmas.{calls_more_le, cost_more_le, costs_from_places, width_at}
 use Rattle.report_rows.proofs.sums.sum_of.Goals as goal
 
@@ -39,7 +39,7 @@ add_cost-requires-clause-fits c = λ k lt.
 
 pub returns-clause-cost : goal.returns-clause-cost
 returns-clause-cost c =
-    costs_from_places c.args.events (said c.args.entries.now) c.entries.cost.items c.entries.invariant.width
+    costs_from_places c.args.events (entry_values c.args.entries.now) c.entries.cost.items c.entries.invariant.width
     (λ k lt. c.entries.invariant.cost k lt
-    ∙ ap (λ es. cost_of (said es) k)
+    ∙ ap (λ es. cost_of (entry_values es) k)
     (take_all c.entries.entry-index c.args.entries.now c.entries-test.false))

@@ -1,11 +1,11 @@
 use Rattle.rv_step.proofs.CauseLemmas.{left-ending}
 use Rattle.rv_step.proofs.PromiseLemmas.{IsReady, IsLawful, left-lawful, left-within}
 use Rattle.rv_step.specs.Causes.{flow_at}
-use Rattle.rv_step.specs.Forms.{State, Outcome, outcome, state}
+use Rattle.rv_step.specs.Forms.{HartState, Outcome, outcome, hart_state}
 use Rattle.rv_step.proofs.execution.step.Goals as goal
 
-abbrev before : (c : goal.After-execute_next) → State
-before c = state c.args.regs.now c.args.mem.now c.args.held.now
+abbrev before : (c : goal.After-execute_next) → HartState
+before c = hart_state c.args.regs.now c.args.mem.now c.args.held.now
 
 abbrev left : (c : goal.After-execute_next) → Outcome
 left c = outcome c.execute_next.result c.execute_next.new.regs c.execute_next.new.mem c.execute_next.new.held

@@ -1,9 +1,9 @@
 use Rattle.std.proofs.Common.{◌≡◌, ◌-◌, ◌++◌, suc, List, take, refl, sym, subst, ◌∙◌, arith}
-use Rattle.event_costs.specs.Arcs.{Telling, ToldAll}
+use Rattle.event_costs.specs.Arcs.{Telling, TakesAll}
 use Rattle.shadow_stack.specs.Frames.{closing, closings}
 use Rattle.shadow_stack.specs.Arenas.{frames}
 use Rattle.shadow_stack.proofs.ChainLemmas.{ChangesChainOnly-refl, ChangesChainOnly-trans}
-use Rattle.shadow_stack.proofs.TellingLemmas.{ToldAll-append, takes_later, closings-step, drop-step, StartWithin-tail}
+use Rattle.shadow_stack.proofs.TellingLemmas.{TakesAll-append, takes_later, closings-step, drop-step, StartWithin-tail}
 use Rattle.shadow_stack.proofs.closing.close.Goals as goal
 
 pub closed-init : goal.closed-init
@@ -49,7 +49,7 @@ closed-preserved g c =
           StartWithin-tail c.args.total.now was rest c.pop-frame.result.0 c.pop-frame.ensures.frames
           c.closed.invariant.starts;
       can_take =
-          takes_later g.S.ArcSink.told g.S.ArcSink.can_take g.met.S.ArcSink.takes_rest c.closed.sink c.tell.new.sink
+          takes_later g.S.ArcSink.takes g.S.ArcSink.can_take g.met.S.ArcSink.takes_rest c.closed.sink c.tell.new.sink
           (closing c.args.total.now c.pop-frame.result.0)
           (closings c.args.total.now (take (c.pop-frame.result.1.depth - c.args.depth) rest))
           (subst
@@ -60,8 +60,8 @@ closed-preserved g c =
           (c.pop-frame.result.1.depth - c.args.depth) c.pop-frame.ensures.frames deep) ∙ c.closed.invariant.left;
       told = λ last t.
           c.closed.invariant.told last
-          (subst (λ (ts : List Telling). ToldAll g.S.ArcSink.told c.closed.sink ts last) (sym step)
-          (ToldAll-append g.S.ArcSink.told c.closed.sink c.tell.new.sink last
+          (subst (λ (ts : List Telling). TakesAll g.S.ArcSink.takes c.closed.sink ts last) (sym step)
+          (TakesAll-append g.S.ArcSink.takes c.closed.sink c.tell.new.sink last
           (closing c.args.total.now c.pop-frame.result.0)
           (closings c.args.total.now (take (c.pop-frame.result.1.depth - c.args.depth) rest)) c.tell.ensures t));
       chain =

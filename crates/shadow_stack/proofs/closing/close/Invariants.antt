@@ -1,5 +1,5 @@
 use Rattle.std.proofs.Common.{◌≡◌, ◌+◌, ◌-◌, ◌≤◌, take, drop}
-use Rattle.event_costs.specs.Arcs.{ToldAll}
+use Rattle.event_costs.specs.Arcs.{TakesAll}
 use Rattle.shadow_stack.specs.Frames.{closings, StartWithin}
 use Rattle.shadow_stack.specs.Arenas.{frames, LiesIn, ChangesChainOnly}
 use Rattle.shadow_stack.proofs.closing.close.Given as goal
@@ -14,9 +14,9 @@ invariant-closed g l = record {
   left : drop (l.at.depth - l.depth) (frames l.arena.slots l.at)
       ≡ drop (l.fn.head.depth - l.depth) (frames l.fn.arena.slots l.fn.head);
   told : (last : _)
-      → ToldAll g.S.ArcSink.told l.sink
+      → TakesAll g.S.ArcSink.takes l.sink
       (closings l.total (take (l.at.depth - l.depth) (frames l.arena.slots l.at))) last
-      → ToldAll g.S.ArcSink.told l.fn.sink
+      → TakesAll g.S.ArcSink.takes l.fn.sink
       (closings l.total (take (l.fn.head.depth - l.depth) (frames l.fn.arena.slots l.fn.head))) last;
   chain : ChangesChainOnly l.fn.arena.slots l.fn.head l.arena.slots l.at;
   room : l.arena.spare + l.at.depth ≡ l.fn.arena.spare + l.fn.head.depth;

@@ -1,12 +1,12 @@
 use Rattle.std.proofs.Common.{◌≡◌, ◌==◌, true, List, refl, sym, subst, ◌∙◌, arith}
-use Rattle.event_costs.specs.Arcs.{Telling, ToldAll}
+use Rattle.event_costs.specs.Arcs.{Telling, TakesAll}
 use Rattle.shadow_stack.specs.declared.arena.Head.{Head}
 use Rattle.shadow_stack.specs.declared.frame.Frame.{Frame}
 use Rattle.shadow_stack.specs.Frames.{closing, closings, StartWithin}
 use Rattle.shadow_stack.specs.Arenas.{frames, beneath, is_in_chain, LiesIn, AreRestarted}
 use Rattle.shadow_stack.proofs.ChainLemmas.{in_chain-split}
 use Rattle.shadow_stack.proofs.RestartLemmas.{left_lies, next_of, IsNext, one_more, none_done, whole_done, is_between}
-use Rattle.shadow_stack.proofs.TellingLemmas.{ToldAll-append, takes_later, StartWithin-tail}
+use Rattle.shadow_stack.proofs.TellingLemmas.{TakesAll-append, takes_later, StartWithin-tail}
 use Rattle.std.proofs.lemmas.Bool.{or_right}
 use Rattle.shadow_stack.proofs.closing.restart.Goals as goal
 
@@ -63,7 +63,7 @@ restarted-preserved g c =
     let next : IsNext c.args.total.now c.args.arena.now.slots c.restarted.at c.top-node.result.now =
     next_of total old c.restarted.arena.slots c.args.head at node c.restarted.invariant.lies c.restarted-test.true
     c.restarted.invariant.nodes c.top-node.ensures.node in
-    let told = g.S.ArcSink.told in
+    let takes = g.S.ArcSink.takes in
     record {
       lies = subst (λ h. LiesIn old h) back next.splits.beneath;
       within = λ key on.
@@ -82,18 +82,18 @@ restarted-preserved g c =
           (frames old (beneath at node)) node.frame next.frames_are c.restarted.invariant.starts);
       can_take =
           subst (λ (h : Head). g.S.ArcSink.can_take c.tell.new.sink (closings total (frames old h))) back
-          (takes_later told g.S.ArcSink.can_take g.met.S.ArcSink.takes_rest c.restarted.sink c.tell.new.sink
+          (takes_later takes g.S.ArcSink.can_take g.met.S.ArcSink.takes_rest c.restarted.sink c.tell.new.sink
           (closing total node.frame) (closings total (frames old (beneath at node)))
           (subst
           (λ (ts : List Telling). g.S.ArcSink.can_take c.restarted.sink ts) next.tellings_are
           c.restarted.invariant.can_take) c.tell.ensures);
       told = λ last t.
           c.restarted.invariant.told last
-          (subst (λ (ts : List Telling). ToldAll told c.restarted.sink ts last) (sym next.tellings_are)
-          (ToldAll-append told c.restarted.sink c.tell.new.sink last (closing total node.frame)
+          (subst (λ (ts : List Telling). TakesAll takes c.restarted.sink ts last) (sym next.tellings_are)
+          (TakesAll-append takes c.restarted.sink c.tell.new.sink last (closing total node.frame)
           (closings total (frames old (beneath at node))) c.tell.ensures
           (subst
-          (λ (h : Head). ToldAll told c.tell.new.sink
+          (λ (h : Head). TakesAll takes c.tell.new.sink
           (closings total (frames old h)) last) c.beneath-beneath.ensures t)));
       room = c.restart_top.ensures.room ∙ c.restarted.invariant.room;
     }

@@ -1,5 +1,5 @@
 use Rattle.std.proofs.Common.{◌≡◌, ◌&&◌, not, true}
-use Rattle.event_costs.specs.Arcs.{ToldAll}
+use Rattle.event_costs.specs.Arcs.{TakesAll}
 use Rattle.shadow_stack.specs.Frames.{closings, StartWithin}
 use Rattle.shadow_stack.specs.Arenas.{frames, is_in_chain, LiesIn, AreRestarted}
 use Rattle.shadow_stack.proofs.closing.restart.Given as goal
@@ -14,8 +14,8 @@ invariant-restarted g l = record {
       l.fn.arena.slots l.arena.slots;
   starts : StartWithin l.total (frames l.fn.arena.slots l.at);
   can_take : g.S.ArcSink.can_take l.sink (closings l.total (frames l.fn.arena.slots l.at));
-  told : (last : _) → ToldAll g.S.ArcSink.told l.sink (closings l.total (frames l.fn.arena.slots l.at)) last
-      → ToldAll g.S.ArcSink.told l.fn.sink (closings l.total (frames l.fn.arena.slots l.fn.head)) last;
+  told : (last : _) → TakesAll g.S.ArcSink.takes l.sink (closings l.total (frames l.fn.arena.slots l.at)) last
+      → TakesAll g.S.ArcSink.takes l.fn.sink (closings l.total (frames l.fn.arena.slots l.fn.head)) last;
   room : l.arena.spare ≡ l.fn.arena.spare;
 }
 

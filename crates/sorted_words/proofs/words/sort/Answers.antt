@@ -4,7 +4,7 @@ use Rattle.sorted_words.proofs.words.sort.Goals as goal
 
 pub returns-in-Ok : goal.returns-in-Ok
 returns-in-Ok c =
-    rw c.given.ensures
+    rw c.behind_command.ensures
     (took c.args.commands.now c.args.words.now _ _ c.requires c.in_ok-program.ensures c.in-Ok.ensures.kinds
     (λ simple. (c.in-Ok.ensures.matches simple).1))
 

@@ -1,7 +1,7 @@
 use Rattle.std.proofs.Common.{◌∙◌, ap, subst, sym}
 use Rattle.std.specs.Str.{IsUtf8}
-use Rattle.byte_text.specs.Names.{cleaned}
-use Rattle.source_files.proofs.NameLemmas.{cleaned-IsUtf8, loaded_as, named_cleaned, named_whole}
+use Rattle.byte_text.specs.Names.{clean_name}
+use Rattle.source_files.proofs.NameLemmas.{clean_name-IsUtf8, loaded_as, named_cleaned, named_whole}
 use Rattle.source_files.proofs.TellsLemmas.{told_as, told_unasked}
 use Rattle.source_files.proofs.sources.load_source.Goals as goal
 
@@ -15,7 +15,7 @@ pub unreachable-requires : goal.unreachable-requires
 unreachable-requires g c =
     c.in-Err.ensures.cases.0
     (subst (λ bytes. IsUtf8 bytes) (sym (c.as_bytes-3.ensures ∙ c.in_ok-cleaned.ensures))
-    (cleaned-IsUtf8 c.as_bytes-2.result.now))
+    (clean_name-IsUtf8 c.as_bytes-2.result.now))
 
 pub returns-clause-source : goal.returns-clause-source
 returns-clause-source g c =
@@ -23,7 +23,7 @@ returns-clause-source g c =
     (named_cleaned c.args.file.now _
     (λ is. c.in_default.ensures.cases.0 (subst (λ bytes. IsUtf8 bytes) (sym c.as_bytes.ensures) is))
     (c.in-Ok-from_utf8.ensures.cases.0 ∙ c.as_bytes-3.ensures ∙ c.in_ok-cleaned.ensures
-    ∙ ap (λ bytes. cleaned bytes) c.as_bytes-2.ensures)) c.load_text-in-Ok-from_utf8.ensures.source
+    ∙ ap (λ bytes. clean_name bytes) c.as_bytes-2.ensures)) c.load_text-in-Ok-from_utf8.ensures.source
 
 pub returns-in-Ok-clause-told : goal.returns-in-Ok-clause-told
 returns-in-Ok-clause-told g c =
@@ -40,4 +40,4 @@ returns-clause-told g c =
     (named_cleaned c.args.file.now _
     (λ is. c.in_default.ensures.cases.0 (subst (λ bytes. IsUtf8 bytes) (sym c.as_bytes.ensures) is))
     (c.in-Ok-from_utf8.ensures.cases.0 ∙ c.as_bytes-3.ensures ∙ c.in_ok-cleaned.ensures
-    ∙ ap (λ bytes. cleaned bytes) c.as_bytes-2.ensures)) c.load_text-in-Ok-from_utf8.ensures.told
+    ∙ ap (λ bytes. clean_name bytes) c.as_bytes-2.ensures)) c.load_text-in-Ok-from_utf8.ensures.told

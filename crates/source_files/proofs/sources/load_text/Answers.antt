@@ -1,5 +1,5 @@
 use Rattle.std.proofs.Common.{[], ◌∷◌, Err, inr, refl}
-use Rattle.outside.specs.Told.{Loaded}
+use Rattle.outside.specs.Journal.{Loaded}
 use Rattle.outside.specs.declared.folder.LoadError.TheVariants.{OutOfMemory}
 use Rattle.source_files.specs.Sources.{source_limit}
 use Rattle.source_files.proofs.sources.load_text.Goals as goal

@@ -7,7 +7,7 @@ use Rattle.std.proofs.lemmas.List.Elements.{All-append, All-more}
 use Rattle.std.proofs.lemmas.Option.{get_or_from_slice_get}
 use Rattle.dwarf_line.specs.declared.row.Row.{Row}
 use Rattle.dwarf_line.specs.declared.row.Sequence.{Sequence}
-use Rattle.dwarf_line.specs.LineTable.{IsPlaced, IsRising, row_address, sequence_in}
+use Rattle.dwarf_line.specs.Rows.{IsPlaced, IsRising, row_address, sequence_in}
 use Rattle.sym_map.specs.inner.Rows.{IsBounded, all_rows, rows_in}
 use Rattle.sym_map.proofs.Members.{Alike, Alike-append, Alike-refl, Alike-trans}
 use Rattle.sym_map.proofs.RowPiles.{rows_more}

@@ -1,7 +1,7 @@
 use Rattle.std.proofs.Common.{length, map, take}
 use Rattle.std.specs.Prelude.{All, flat_map}
 use Rattle.dwarf_line.specs.declared.row.Row.{Row}
-use Rattle.dwarf_line.specs.LineTable.{IsPlaced, IsRising, row_address, sequence_in}
+use Rattle.dwarf_line.specs.Rows.{IsPlaced, IsRising, row_address, sequence_in}
 use Rattle.sym_map.specs.inner.Rows.{IsBounded, rows_in}
 use Rattle.sym_map.proofs.Members.{Alike}
 use Rattle.sym_map.proofs.lines.file_numbers.Given as goal

@@ -6,7 +6,7 @@ use Rattle.std.proofs.lemmas.List.{length-map}
 use Rattle.std.proofs.lemmas.List.Elements.{All-weaker}
 use Rattle.std.proofs.lemmas.Map.Views.{length-le_from_below}
 use Rattle.std.proofs.lemmas.Option.{slice_get_within}
-use Rattle.dwarf_line.specs.LineTable.{LineTable}
+use Rattle.dwarf_line.specs.Rows.{Rows}
 use Rattle.sym_map.specs.inner.Lines.{cleaned_file}
 use Rattle.sym_map.proofs.LineTables.{are_lines}
 use Rattle.sym_map.proofs.Numbers.{all_there}
@@ -33,7 +33,7 @@ by_file-requires-clause-as_many c =
     (each.as_many ∙ length-map c.in_ok-numbers.numbers.items (cleaned_file files))
 
 -- there are fewer names than 32 bits can number
-few_names : (table : LineTable) (numbers : List ℕ) (texts names : List (List ℕ)) (count : ℕ)
+few_names : (table : Rows) (numbers : List ℕ) (texts names : List (List ℕ)) (count : ℕ)
     → IsStrictlySortedBy nat_cmp numbers → All (λ n. n < length table.files) numbers → count ≡ length table.files
     → count + 4 ≤ 2 ^ 32 → texts ≡ map (cleaned_file table.files) numbers → length names ≤ length texts + 1
     → length names < 2 ^ 32

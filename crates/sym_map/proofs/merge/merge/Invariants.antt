@@ -1,17 +1,17 @@
 use Rattle.std.proofs.Common.{◌≡◌, ◌+◌, ◌-◌, ◌≤◌, ◌^◌, ℕ, length, take}
-use Rattle.sym_map.specs.Ranges.{seen_at}
+use Rattle.sym_map.specs.Ranges.{cover_at}
 use Rattle.sym_map.specs.inner.Rising.{Rise}
-use Rattle.sym_map.specs.inner.Spans.{IsPassed, over, reach}
+use Rattle.sym_map.specs.inner.Spans.{IsPassed, or_below, reach}
 use Rattle.sym_map.proofs.merge.merge.Given as goal
 
 abbrev pub invariant-ranges-2 : goal.invariant-ranges-2
 invariant-ranges-2 l = record {
   rise : Rise l.merged.items;
   within : reach l.merged.items ≤ 2 ^ 32;
-  above : IsPassed l.above l.top.next l.top.seen (reach l.merged.items);
-  below : IsPassed l.below l.bottom.next l.bottom.seen (reach l.merged.items);
-  same : (address : ℕ) → seen_at l.merged.items address
-      ≡ over (seen_at (take l.top.next l.above) address) (seen_at (take l.bottom.next l.below) address);
+  above : IsPassed l.above l.top.next l.top.cover (reach l.merged.items);
+  below : IsPassed l.below l.bottom.next l.bottom.cover (reach l.merged.items);
+  same : (address : ℕ) → cover_at l.merged.items address
+      ≡ or_below (cover_at (take l.top.next l.above) address) (cover_at (take l.bottom.next l.below) address);
 }
 
 abbrev pub decreases-ranges-2 : goal.decreases-ranges-2

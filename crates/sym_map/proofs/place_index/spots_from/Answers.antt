@@ -24,7 +24,7 @@ words-preserved c =
     let P = λ (n : ℕ). IsSpot ranges unknown (first + 4 * n) last in subst P (sym so_far.counted) is in
     let small : first + 4 * (length spots + 1) < 2 ^ 32 =
     omega (arith, so_far.counted, c.requires.within, c.words-test.true, c.words.auto.word-end) in
-    let pushed = c.in_ok-push.ensures.items ∙ ap (λ (s : Spot). spots ++ s ∷ []) c.copied.ensures in
+    let pushed = c.in_ok-push.ensures.items ∙ ap (λ (s : Spot). spots ++ s ∷ []) c.copy.ensures in
     let more : length (spots ++ last ∷ []) ≡ length spots + 1 = length-append spots (last ∷ []) in
     record {
       symbol = c.near-near.ensures.symbol;

@@ -3,7 +3,7 @@ use Rattle.std.specs.Ordering.{is_lt}
 use Rattle.std.specs.List.Sorted.{IsPermutation, IsStableBy}
 use Rattle.std.proofs.lemmas.Fn.{always_returns_same}
 use Rattle.std.proofs.lemmas.List.Sorted.{IsPermutation-map, length_permutation}
-use Rattle.sym_map.specs.inner.Naming.{Named, NumberedSymbol, is_preferred}
+use Rattle.sym_map.specs.inner.Naming.{NamedSymbol, NumberedSymbol, is_preferred}
 use Rattle.sym_map.specs.inner.Ranking.{named_in}
 use Rattle.sym_map.proofs.Numbers.{sorted_map}
 use Rattle.sym_map.proofs.MappedSorts.{stable_map}
@@ -17,14 +17,14 @@ returns-clause-all c =
     let rs : List NumberedSymbol = c.in_ok-ranked.field-0.ranked.items in
     let names : List (List ℕ) = c.in_ok-ranked.field-0.names in
     let sorted : List NumberedSymbol = c.sort_by.new.self.items in
-    subst (λ (cs : List Named). IsPermutation cs (map (named_in names) sorted)) c.in_ok-ranked.ensures.all
+    subst (λ (cs : List NamedSymbol). IsPermutation cs (map (named_in names) sorted)) c.in_ok-ranked.ensures.all
     (IsPermutation-map (named_in names) rs sorted c.sort_by.ensures.permutation)
 
 pub returns-clause-sorted : goal.returns-clause-sorted
 returns-clause-sorted c =
     let rs : List NumberedSymbol = c.in_ok-ranked.field-0.ranked.items in
     let names : List (List ℕ) = c.in_ok-ranked.field-0.names in
-    let named : NumberedSymbol → Named = named_in names in
+    let named : NumberedSymbol → NamedSymbol = named_in names in
     let sorted : List NumberedSymbol = c.sort_by.new.self.items in
     sorted_map named is_preferred sorted
     (sorted_alike (λ (x y : NumberedSymbol). is_preferred (named x) (named y)) is_before (preferred_weak_in names) rs
@@ -38,9 +38,9 @@ pub returns-clause-stable : goal.returns-clause-stable
 returns-clause-stable c =
     let rs : List NumberedSymbol = c.in_ok-ranked.field-0.ranked.items in
     let names : List (List ℕ) = c.in_ok-ranked.field-0.names in
-    let named : NumberedSymbol → Named = named_in names in
+    let named : NumberedSymbol → NamedSymbol = named_in names in
     let sorted : List NumberedSymbol = c.sort_by.new.self.items in
-    subst (λ (cs : List Named). IsStableBy is_preferred cs (map named sorted)) c.in_ok-ranked.ensures.all
+    subst (λ (cs : List NamedSymbol). IsStableBy is_preferred cs (map named sorted)) c.in_ok-ranked.ensures.all
     (stable_map named is_preferred preferred_weak rs sorted c.sort_by.ensures.permutation
     (stable_alike (λ (x y : NumberedSymbol). is_preferred (named x) (named y)) is_before (preferred_weak_in names) rs
     sorted c.sort_by.ensures.permutation

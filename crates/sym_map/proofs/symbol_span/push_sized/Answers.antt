@@ -1,9 +1,9 @@
 use Rattle.std.proofs.Common.{◌+◌, List, sym, ap, ◌∙◌, arith}
 use Rattle.std.proofs.lemmas.List.{take_all}
 use Rattle.elf_read.specs.declared.symbol.Symbol.{Symbol}
-use Rattle.sym_map.specs.inner.Functions.{first_shown}
+use Rattle.sym_map.specs.inner.Functions.{first_cover}
 use Rattle.sym_map.specs.inner.Naming.{NumberedSymbol}
-use Rattle.sym_map.specs.inner.Spans.{over, seen}
+use Rattle.sym_map.specs.inner.Spans.{or_below, cover}
 use Rattle.sym_map.specs.Symbols.{covers_sized}
 use Rattle.sym_map.proofs.SymbolSpans.{StandsAt, pushed, skipped, covers_by_size, not_by_size}
 use Rattle.sym_map.proofs.symbol_span.push_sized.Goals as goal
@@ -20,20 +20,20 @@ placed-preserved c = λ a.
     } in
     elim c.if-is_sized.branch [
       | then-is_sized+in_ok-push w ↦
-          ap (λ v. seen v.items a) w.spans-is ∙ ap (λ xs. seen xs a) w.in_ok-push.ensures.items
+          ap (λ v. cover v.items a) w.spans-is ∙ ap (λ xs. cover xs a) w.in_ok-push.ensures.items
           ∙ pushed covers_sized c.placed.spans.items c.args.placed.now c.placed.one-index one symbol
-          (seen c.args.spans.now.items a) w.said_of.result (w.from.result + w.from-then-is_sized.result) a stands
+          (cover c.args.spans.now.items a) w.label_of.result (w.from.result + w.from-then-is_sized.result) a stands
           (rw (w.from.ensures, w.from-then-is_sized.ensures)
-          (covers_by_size a symbol (sym c.is_sized.ensures ∙ w.if-is_sized.true))) w.said_of.ensures
+          (covers_by_size a symbol (sym c.is_sized.ensures ∙ w.if-is_sized.true))) w.label_of.ensures
           (c.placed.invariant a)
       | else-is_sized w ↦
-          ap (λ v. seen v.items a) w.spans-is
-          ∙ skipped (covers_sized a) c.args.placed.now c.placed.one-index one symbol (seen c.args.spans.now.items a)
-          (seen c.placed.spans.items a) stands (c.placed.invariant a)
+          ap (λ v. cover v.items a) w.spans-is
+          ∙ skipped (covers_sized a) c.args.placed.now c.placed.one-index one symbol (cover c.args.spans.now.items a)
+          (cover c.placed.spans.items a) stands (c.placed.invariant a)
           (not_by_size a symbol (sym c.is_sized.ensures ∙ w.if-is_sized.false))
     ]
 
 pub returns : goal.returns
 returns c = λ a.
-    c.placed.invariant a ∙ ap (λ (xs : List NumberedSymbol). over (seen c.args.spans.now.items a)
-    (first_shown (covers_sized a) xs)) (take_all c.placed.one-index c.args.placed.now (omega arith))
+    c.placed.invariant a ∙ ap (λ (xs : List NumberedSymbol). or_below (cover c.args.spans.now.items a)
+    (first_cover (covers_sized a) xs)) (take_all c.placed.one-index c.args.placed.now (omega arith))

@@ -1,8 +1,8 @@
 use Rattle.std.proofs.Common.{◌≡◌, ℕ, take, map, length}
-use Rattle.sym_map.specs.inner.Functions.{first_shown}
+use Rattle.sym_map.specs.inner.Functions.{first_cover}
 use Rattle.sym_map.specs.inner.Limits.{limit_of, AreLowest}
 use Rattle.sym_map.specs.inner.Naming.{NumberedSymbol}
-use Rattle.sym_map.specs.inner.Spans.{over, seen}
+use Rattle.sym_map.specs.inner.Spans.{or_below, cover}
 use Rattle.sym_map.specs.Symbols.{covers_unsized}
 use Rattle.sym_map.proofs.symbol_span.push_unsized.Given as goal
 
@@ -11,7 +11,7 @@ invariant-placed l = record {
   passed : AreLowest (map (λ (p : NumberedSymbol). limit_of p.symbol) (take l.one-index l.placed))
       l.limits.sections.items;
   all : length l.limits.sections.items ≡ length l.elf.sections;
-  seen : (address : ℕ)
-      → seen l.spans.items address ≡ over (seen l.initial.spans.items address)
-      (first_shown (covers_unsized l.elf address) (take l.one-index l.placed));
+  cover : (address : ℕ)
+      → cover l.spans.items address ≡ or_below (cover l.initial.spans.items address)
+      (first_cover (covers_unsized l.elf address) (take l.one-index l.placed));
 }

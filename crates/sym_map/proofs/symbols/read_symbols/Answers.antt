@@ -6,7 +6,7 @@ use Rattle.sym_map.specs.inner.Functions.{key_of}
 use Rattle.name_numbers.specs.Keys.{NumberEach}
 use Rattle.sym_map.specs.inner.Limits.{Fall}
 use Rattle.sym_map.specs.inner.NameKeys.{name_key, function_named}
-use Rattle.sym_map.specs.inner.Naming.{Named, NumberedSymbol}
+use Rattle.sym_map.specs.inner.Naming.{NamedSymbol, NumberedSymbol}
 use Rattle.sym_map.specs.inner.Ranking.{named_in}
 use Rattle.sym_map.proofs.Numbers.{all_there}
 use Rattle.sym_map.proofs.FunctionNames.{functions_by_rank}
@@ -18,8 +18,8 @@ use Rattle.sym_map.proofs.symbols.read_symbols.Goals as goal
 -- what is numbered anew has the symbols of what is sorted
 placed_symbols : (names : List (List ℕ)) (ranked placed : List NumberedSymbol)
     → map (λ (p : NumberedSymbol). p.symbol) placed ≡ map (λ (p : NumberedSymbol). p.symbol) ranked
-    → map (λ (p : NumberedSymbol). p.symbol) placed ≡ map (λ (n : Named). n.symbol) (map (named_in names) ranked)
-placed_symbols names ranked placed same = same ∙ sym (nested (named_in names) (λ (n : Named). n.symbol) ranked)
+    → map (λ (p : NumberedSymbol). p.symbol) placed ≡ map (λ (n : NamedSymbol). n.symbol) (map (named_in names) ranked)
+placed_symbols names ranked placed same = same ∙ sym (nested (named_in names) (λ (n : NamedSymbol). n.symbol) ranked)
 
 pub numbered_by-placed-requires-clause-as_many : goal.numbered_by-placed-requires-clause-as_many
 numbered_by-placed-requires-clause-as_many c =
@@ -74,7 +74,7 @@ returns c =
     let ranges = c.args.lines.now.ranges.items in
     let unknown = c.args.lines.now.unknown in
     let functions : List Function = c.in_ok-numbered.numbered.functions in
-    let sorted : List Named = map (named_in names) ranked in
+    let sorted : List NamedSymbol = map (named_in names) ranked in
     let symbols = placed_symbols names ranked placed c.numbered_by-placed.ensures.symbols in
     let funcs = rw c.deref.ensures.value at c.numbered_by-placed.ensures.numbers in
     let by_rank : map (function_named names) (map (name_key ranges unknown) ranked)

@@ -1,6 +1,6 @@
 use Rattle.std.proofs.Common.{◌≡◌, IfOk, ap, subst}
 use Rattle.sym_map.specs.SymbolMap.{SymbolMap}
-use Rattle.addr_rows.specs.EventRows.{located}
+use Rattle.addr_rows.specs.EventRows.{located_rows}
 use Rattle.addr_rows.specs.Rows.{AddrListed, OfThread}
 use Rattle.addr_rows.specs.Texts.{addr_text}
 use Rattle.addr_costs.proofs.TextsLemmas.{rows_known}
@@ -17,6 +17,6 @@ pub returns-clause-text : goal.returns-clause-text
 returns-clause-text c =
     let m = c.self.inside.syms in
     subst (λ (n : SymbolMap). IfOk c.write_addr.result (λ text. text ≡ addr_text c.args.head.now
-    (located n c.args.rows.now) n)) c.self.view_is
+    (located_rows n c.args.rows.now) n)) c.self.view_is
     (subst (λ (rows : AddrListed). IfOk c.write_addr.result (λ text. text ≡ addr_text c.args.head.now rows m))
     (ap (λ (r : OfThread). r.rows) c.in_ok-rows.ensures) c.write_addr.ensures)

@@ -1,6 +1,6 @@
 use Rattle.std.proofs.Common.{◌<◌, ℕ, [], length, All, sym, subst, ◌∙◌, arith}
 use Rattle.std.proofs.lemmas.List.Elements.{All-filter}
-use Rattle.report_rows.specs.Orders.{is_of}
+use Rattle.report_rows.specs.Orders.{in_group}
 use Rattle.std.proofs.lemmas.List.{get_or-map}
 use Rattle.report_rows.proofs.OrderLemmas.{all_below}
 use Rattle.annotate.proofs.view.View.members_of.Goals as goal
@@ -15,5 +15,5 @@ returns-clause-functions c =
     ∙ sym (get_or-map (λ row. row.items) v.members.now c.args.group c.index-self-group.result [] inside)
     ∙ c.requires.view.members.exact c.args.group c.requires.group in
     subst (All P) (sym is)
-    (All-filter (is_of v.groups.now c.args.group) P v.functions.now
+    (All-filter (in_group v.groups.now c.args.group) P v.functions.now
     (all_below n v.functions.now c.requires.view.in_order.same))

@@ -1,7 +1,7 @@
 use Rattle.std.proofs.Common.{◌≡◌, length, Some, is_some, sym, ◌∙◌, ap, subst, arith, if◌then◌else◌}
 use Rattle.indexmap.specs.IndexMap.{set_value_at}
 use Rattle.arc_costs.specs.inner.Shape.{IsSound, all_rows}
-use Rattle.arc_costs.specs.Amounts.{emptied}
+use Rattle.arc_costs.specs.Amounts.{clear_amounts}
 use Rattle.arc_costs.proofs.ClearLemmas.{cleared_all, cleared_first, cleared_next, cleared_room, cleared_rows}
 use Rattle.arc_costs.proofs.ClearLemmas.{cleared_slot, length-cleared_first, sound-cleared}
 use Rattle.arc_costs.proofs.table.Table.clear.Goals as goal
@@ -24,14 +24,14 @@ rows-preserved g c = record {
 }
 
 known_is : (g : _) (c : Joined-self g)
-    → c.rows.self-inside.known.entries ≡ emptied g.A.Amount.nothing c.self.inside.known.entries
+    → c.rows.self-inside.known.entries ≡ clear_amounts g.A.Amount.nothing c.self.inside.known.entries
 known_is g c =
     let end : c.rows.index ≡ length c.self.inside.known.entries = omega (arith, c.len-index-end.ensures.len) in
     c.rows.invariant.entries ∙ ap (λ n. cleared_first g.A.Amount.nothing n c.self.inside.known.entries) end
     ∙ cleared_all g.A.Amount.nothing c.self.inside.known.entries
 
 parts : (g : _) (c : Joined-self g)
-    → (c.match-self.self-inside.known.entries ≡ emptied g.A.Amount.nothing c.self.inside.known.entries)
+    → (c.match-self.self-inside.known.entries ≡ clear_amounts g.A.Amount.nothing c.self.inside.known.entries)
     × (c.match-self.self-inside.newest ≡ cleared_slot g.A.Amount.nothing c.self.inside.newest)
 parts g c =
     elim c.match-self.branch [
@@ -51,7 +51,7 @@ pub invariant_of-self : goal.invariant_of-self
 invariant_of-self g c =
     let p = parts g c in
     subst (λ known. IsSound g.K.PartialEq.eq g.A.Amount.is_whole known c.match-self.self-inside.newest) (sym p.0)
-    (subst (IsSound g.K.PartialEq.eq g.A.Amount.is_whole (emptied g.A.Amount.nothing c.self.inside.known.entries))
+    (subst (IsSound g.K.PartialEq.eq g.A.Amount.is_whole (clear_amounts g.A.Amount.nothing c.self.inside.known.entries))
     (sym p.1)
     (sound-cleared g.A.Amount.nothing g.K.PartialEq.eq g.A.Amount.is_whole g.met.A.Amount.nothing_whole
     c.self.inside.known.entries c.self.inside.newest c.self.invariant))
@@ -60,7 +60,7 @@ pub returns-clause-rows : goal.returns-clause-rows
 returns-clause-rows g c =
     let p = parts g c in
     (λ i. all_rows (p.0 i) (p.1 i)) ∙ cleared_rows g.A.Amount.nothing c.self.inside.known.entries c.self.inside.newest
-    ∙ ap (λ v. emptied g.A.Amount.nothing v.rows) c.self.view_is
+    ∙ ap (λ v. clear_amounts g.A.Amount.nothing v.rows) c.self.view_is
 
 pub returns-clause-room : goal.returns-clause-room
 returns-clause-room g c =

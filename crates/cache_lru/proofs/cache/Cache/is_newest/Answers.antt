@@ -2,7 +2,7 @@ use Rattle.std.proofs.Common.{◌<◌, List, ℕ, ◌∷◌, [], ◌++◌, sym, 
 use Rattle.std.proofs.lemmas.Bool.{eqb-true}
 use Rattle.std.proofs.lemmas.Nat.{mod_below}
 use Rattle.cache_lru.specs.Shape.{set_of, sets_of}
-use Rattle.cache_lru.specs.Lines.{Kept, StandsFor}
+use Rattle.cache_lru.specs.Lines.{Cache, StandsFor}
 use Rattle.cache_lru.proofs.LineLemmas.{still_first}
 use Rattle.cache_lru.proofs.RecencyLemmas.{first-hits, first-stands}
 use Rattle.cache_lru.proofs.ShapeLemmas.{some_sets}
@@ -19,7 +19,7 @@ returns-clause-hit c =
     (eqb-true c.args.block c.self.inside.newest yes)
     c.requires in
     first-hits s lines c.args.block c.requires (let least = c.self.invariant.geometry.assoc_least in omega arith)
-    within there shape history (subst (λ (k : Kept). StandsFor shape k history) (sym c.self.view_is) stands)
+    within there shape history (subst (λ (k : Cache). StandsFor shape k history) (sym c.self.view_is) stands)
 
 pub returns-clause-stands : goal.returns-clause-stands
 returns-clause-stands c =
@@ -31,6 +31,6 @@ returns-clause-stands c =
     let there = still_first s c.self.inside.newest c.args.block lines c.self.invariant.first
     (eqb-true c.args.block c.self.inside.newest yes)
     c.requires in
-    subst (λ (k : Kept). StandsFor shape k (history ++ c.args.block ∷ [])) c.self.view_is
+    subst (λ (k : Cache). StandsFor shape k (history ++ c.args.block ∷ [])) c.self.view_is
     (first-stands s lines c.args.block c.requires (let least = c.self.invariant.geometry.assoc_least in omega arith)
-    within there shape history (subst (λ (k : Kept). StandsFor shape k history) (sym c.self.view_is) stands))
+    within there shape history (subst (λ (k : Cache). StandsFor shape k history) (sym c.self.view_is) stands))

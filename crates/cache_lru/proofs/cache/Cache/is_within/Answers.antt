@@ -3,7 +3,7 @@ use Rattle.std.proofs.lemmas.Bool.{leb-true}
 use Rattle.std.proofs.lemmas.Nat.{mod_below}
 use Rattle.cache_lru.specs.History.{hits}
 use Rattle.cache_lru.specs.Shape.{block_of, set_of, sets_of}
-use Rattle.cache_lru.specs.Lines.{Kept, StandsFor}
+use Rattle.cache_lru.specs.Lines.{Cache, StandsFor}
 use Rattle.cache_lru.proofs.LineLemmas.{still_first}
 use Rattle.cache_lru.proofs.RecencyLemmas.{first-hits, first-stands}
 use Rattle.cache_lru.proofs.ShapeLemmas.{block_below, some_sets}
@@ -13,7 +13,7 @@ pub returns-then-self-first-clause-alike : goal.returns-then-self-first-clause-a
 returns-then-self-first-clause-alike c =
     λ yes.
     let high : c.args.last ≤ c.self.inside.end = leb-true c.args.last c.self.inside.end yes in
-    subst (λ (k : Kept). block_of k.shape c.args.last ≡ block_of k.shape c.args.first) c.self.view_is
+    subst (λ (k : Cache). block_of k.shape c.args.last ≡ block_of k.shape c.args.first) c.self.view_is
     (c.self.invariant.span c.args.last (omega arith) high
     ∙ sym (c.self.invariant.span c.args.first c.if-self-first.true (omega arith)))
 
@@ -29,9 +29,9 @@ returns-then-self-first-clause-hit c =
     let within : set_of s block < sets_of s = mod_below block (sets_of s) (some_sets s c.self.invariant.geometry) in
     let there = still_first s c.self.inside.newest block lines c.self.invariant.first
     (c.self.invariant.span c.args.first c.if-self-first.true (omega arith)) below in
-    subst (λ (k : Kept). hits shape history (block_of k.shape c.args.first) ≡ true) c.self.view_is
+    subst (λ (k : Cache). hits shape history (block_of k.shape c.args.first) ≡ true) c.self.view_is
     (first-hits s lines block below (omega arith) within there shape history
-    (subst (λ (k : Kept). StandsFor shape k history) (sym c.self.view_is) stands))
+    (subst (λ (k : Cache). StandsFor shape k history) (sym c.self.view_is) stands))
 
 pub returns-then-self-first-clause-stands : goal.returns-then-self-first-clause-stands
 returns-then-self-first-clause-stands c =
@@ -45,6 +45,6 @@ returns-then-self-first-clause-stands c =
     let within : set_of s block < sets_of s = mod_below block (sets_of s) (some_sets s c.self.invariant.geometry) in
     let there = still_first s c.self.inside.newest block lines c.self.invariant.first
     (c.self.invariant.span c.args.first c.if-self-first.true (omega arith)) below in
-    subst (λ (k : Kept). StandsFor shape k (history ++ block_of k.shape c.args.first ∷ [])) c.self.view_is
+    subst (λ (k : Cache). StandsFor shape k (history ++ block_of k.shape c.args.first ∷ [])) c.self.view_is
     (first-stands s lines block below (omega arith) within there shape history
-    (subst (λ (k : Kept). StandsFor shape k history) (sym c.self.view_is) stands))
+    (subst (λ (k : Cache). StandsFor shape k history) (sym c.self.view_is) stands))

@@ -5,7 +5,7 @@ use Rattle.std.proofs.lemmas.Bool.{ne_eqb}
 use Rattle.std.proofs.lemmas.Nat.{row_fits, mod_below}
 use Rattle.std.proofs.lemmas.List.{with_items_is}
 use Rattle.cache_lru.specs.Shape.{sets_of, set_of}
-use Rattle.cache_lru.specs.Lines.{StandsFor, Kept, empty_line, lines_of}
+use Rattle.cache_lru.specs.Lines.{StandsFor, Cache, empty_line, lines_of}
 use Rattle.cache_lru.specs.inner.Layout.{IsLaidOut, to_front}
 use Rattle.cache_lru.proofs.LineLemmas.{first-to_front, length-lines_of}
 use Rattle.cache_lru.proofs.ShapeLemmas.{some_sets}
@@ -25,7 +25,7 @@ returns-clause-miss c =
     λ shape history stands. let s = c.self.inside.shape in
     let within : set_of s c.args.block < sets_of s
     = mod_below c.args.block (sets_of s) (some_sets s c.self.invariant.geometry) in
-    let held = subst (λ (k : Kept). StandsFor shape k history) (sym c.self.view_is) stands in
+    let held = subst (λ (k : Cache). StandsFor shape k history) (sym c.self.view_is) stands in
     ap (λ n. c.touch_set-place.result == n) c.assoc-assoc.ensures
     ∙ (rw (c.assoc-assoc.ensures, c.self.invariant.mask c.args.block, c.deref_mut.ensures.value)
     at c.touch_set-place.ensures.miss)
@@ -38,7 +38,7 @@ returns-clause-stands c =
     λ shape history stands. let s = c.self.inside.shape in
     let within : set_of s c.args.block < sets_of s
     = mod_below c.args.block (sets_of s) (some_sets s c.self.invariant.geometry) in
-    let held = subst (λ (k : Kept). StandsFor shape k history) (sym c.self.view_is) stands in
+    let held = subst (λ (k : Cache). StandsFor shape k history) (sym c.self.view_is) stands in
     let now = c.touch_set-place.new.lines in
     subst (λ (ls : List ℕ). StandsFor shape (record { shape = s; lines = ls }) (history ++ c.args.block ∷ []))
     (sym (with_items_is c.self.inside.lines now (search rules)))

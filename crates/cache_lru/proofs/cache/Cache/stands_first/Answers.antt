@@ -2,7 +2,7 @@ use Rattle.std.proofs.Common.{◌≡◌, ◌*◌, ◌<◌, List, ℕ, ◌∷◌,
 use Rattle.std.specs.Prelude.{Some, slice_get}
 use Rattle.std.proofs.lemmas.Nat.{mod_below, row_fits}
 use Rattle.cache_lru.specs.Shape.{IsGeometry, Shape, set_of, sets_of}
-use Rattle.cache_lru.specs.Lines.{Kept, StandsFor, lines_of}
+use Rattle.cache_lru.specs.Lines.{Cache, StandsFor, lines_of}
 use Rattle.cache_lru.proofs.LineLemmas.{first_there}
 use Rattle.cache_lru.proofs.RecencyLemmas.{first-hits, first-stands}
 use Rattle.cache_lru.proofs.ShapeLemmas.{block_between, line_bits_below, some_sets}
@@ -44,7 +44,7 @@ returns-clause-hit c =
     first-hits s lines c.args.block c.requires.below (omega arith) within
     (read_first s lines c.args.block c.index-first.result.now c.self.invariant.geometry c.self.invariant.count
     (rw (c.assoc.ensures, c.self.invariant.mask c.args.block) at c.index-first.ensures) c.if-first-block.false)
-    shape history (subst (λ (k : Kept). StandsFor shape k history) (sym c.self.view_is) stands)
+    shape history (subst (λ (k : Cache). StandsFor shape k history) (sym c.self.view_is) stands)
 
 pub returns-clause-stands : goal.returns-clause-stands
 returns-clause-stands c =
@@ -54,11 +54,11 @@ returns-clause-stands c =
     let least = c.self.invariant.geometry.assoc_least in
     let within : set_of s c.args.block < sets_of s
     = mod_below c.args.block (sets_of s) (some_sets s c.self.invariant.geometry) in
-    subst (λ (k : Kept). StandsFor shape k (history ++ c.args.block ∷ [])) c.self.view_is
+    subst (λ (k : Cache). StandsFor shape k (history ++ c.args.block ∷ [])) c.self.view_is
     (first-stands s lines c.args.block c.requires.below (omega arith) within
     (read_first s lines c.args.block c.index-first.result.now c.self.invariant.geometry c.self.invariant.count
     (rw (c.assoc.ensures, c.self.invariant.mask c.args.block) at c.index-first.ensures) c.if-first-block.false)
-    shape history (subst (λ (k : Kept). StandsFor shape k history) (sym c.self.view_is) stands))
+    shape history (subst (λ (k : Cache). StandsFor shape k history) (sym c.self.view_is) stands))
 
 -- ---- it is the newest from here on
 
@@ -78,7 +78,7 @@ invariant_of-self c =
           let shifted : c.args.block * 2 ^ c.self.inside.line_bits ≡ c.args.block * s.line
           = ap (λ (n : ℕ). c.args.block * n) (sym c.self.invariant.shift) in
           let fits : c.args.block * s.line < 2 ^ 32
-          = subst (λ (k : Kept). c.args.block * k.shape.line < 2 ^ 32) (sym c.self.view_is) c.requires.fits in
+          = subst (λ (k : Cache). c.args.block * k.shape.line < 2 ^ 32) (sym c.self.view_is) c.requires.fits in
           let most = c.saturating_add-self-inside.ensures in
           block_between s c.args.block addr (omega (arith, shifted, fits, low))
           (omega (arith, shifted, fits, low, high, most, c.line.ensures, least));

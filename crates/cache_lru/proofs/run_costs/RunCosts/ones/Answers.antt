@@ -1,5 +1,5 @@
 use Rattle.std.proofs.Common.{◌≤◌, All, Some, Bool, [], ◌∷◌, ◌++◌, sym, subst, ap, ◌∙◌}
-use Rattle.cache_lru.specs.Costs.{KeptForRun, StandForRun, TablesStandWhere, counts_as_branch, no_kind}
+use Rattle.cache_lru.specs.Costs.{RunCosts, StandForRun, TablesStandWhere, counts_as_branch, no_kind}
 use Rattle.cache_lru.specs.Branches.{branch_counts}
 use Rattle.cache_lru.proofs.HistoryLemmas.{event_cost-ones}
 use Rattle.cache_lru.proofs.RunLemmas.{asked, event_cost-is, unasked, without}
@@ -8,7 +8,7 @@ use Rattle.cache_lru.proofs.run_costs.RunCosts.ones.Goals as goal
 pub returns-in_default-clause-stands : goal.returns-in_default-clause-stands
 returns-in_default-clause-stands c =
     λ branches shapes events stand.
-    let held = subst (λ (k : KeptForRun). StandForRun branches shapes k events) (sym c.self.view_is) stand in
+    let held = subst (λ (k : RunCosts). StandForRun branches shapes k events) (sym c.self.view_is) stand in
     record {
       caches = c.refer-missed.ensures.stands shapes events held.caches;
       tables = without branches c.self.inside.predictors events _ held.tables c.in_default.not-Some;
@@ -17,7 +17,7 @@ returns-in_default-clause-stands c =
 pub returns-clause-stands : goal.returns-clause-stands
 returns-clause-stands c =
     λ branches shapes events stand.
-    let held = subst (λ (k : KeptForRun). StandForRun branches shapes k events) (sym c.self.view_is) stand in
+    let held = subst (λ (k : RunCosts). StandForRun branches shapes k events) (sym c.self.view_is) stand in
     let there = asked branches c.self.inside.predictors events c.in-Some.predictors held.tables c.in-Some.is in
     record {
       caches = c.refer-missed.ensures.stands shapes events held.caches;
@@ -28,7 +28,7 @@ returns-clause-stands c =
 pub returns-in_default-clause-cost : goal.returns-in_default-clause-cost
 returns-in_default-clause-cost c =
     λ branches shapes events stand.
-    let held = subst (λ (k : KeptForRun). StandForRun branches shapes k events) (sym c.self.view_is) stand in
+    let held = subst (λ (k : RunCosts). StandForRun branches shapes k events) (sym c.self.view_is) stand in
     let no = unasked branches c.self.inside.predictors events held.tables c.in_default.not-Some in
     c.ones_of-ones.ensures
     ∙ event_cost-is branches shapes events c.args.event.now _ no_kind
@@ -44,7 +44,7 @@ returns-in_default-clause-ones c =
 pub returns-clause-cost : goal.returns-clause-cost
 returns-clause-cost c =
     λ branches shapes events stand.
-    let held = subst (λ (k : KeptForRun). StandForRun branches shapes k events) (sym c.self.view_is) stand in
+    let held = subst (λ (k : RunCosts). StandForRun branches shapes k events) (sym c.self.view_is) stand in
     let there = asked branches c.self.inside.predictors events c.in-Some.predictors held.tables c.in-Some.is in
     let branch = c.args.event.now.done.branch in
     c.with_branch.ensures.event c.args.event.now.done.touch _ c.ones_of-ones.ensures

@@ -5,7 +5,7 @@ use Rattle.std.specs.Map.{keys_of}
 use Rattle.std.proofs.lemmas.Bool.{lt-ltb, ltb-true}
 use Rattle.std.proofs.lemmas.List.{length-map, map-append}
 use Rattle.std.proofs.lemmas.Option.{cond_some, none-some}
-use Rattle.cg_format.specs.Marks.{added, id, is_in}
+use Rattle.cg_format.specs.Marks.{add_number, id, is_in}
 use Rattle.cg_format.proofs.ids.Ids.id_of.Goals as goal
 use Rattle.cg_format.proofs.ids.Ids.id_of.Goals.{In-Some, In_default}
 

@@ -6,26 +6,26 @@ use Rattle.cg_read.proofs.FunctionLemmas.{others_apart, own_apart}
 use Rattle.cg_read.proofs.TextLemmas.{slice_get_kept}
 use Rattle.cg_read.proofs.functions.Functions.join.Goals as goal
 
-pub renumbered-requires : goal.renumbered-requires
-renumbered-requires c =
+pub renumber-requires : goal.renumber-requires
+renumber-requires c =
     let at = rw (c.deref.ensures.value, c.deref-2.ensures.value) at c.in_ok-texts.ensures.numbers in
     rw (c.deref-3.ensures.value, c.deref-4.ensures.value)
     (known_numbers (c.self.inside.texts.items ++ c.in_ok-texts.texts.added.items) c.others.inside.texts.items
-    c.in_ok-texts.texts.numbers.items c.others.inside.numbered.items at c.others.invariant.0.known)
+    c.in_ok-texts.texts.numbers.items c.others.inside.numbered.items at c.others.invariant.0.of_texts)
 
-pub gained-requires-2-clause-knows : goal.gained-requires-2-clause-knows
-gained-requires-2-clause-knows c = rw c.deref-5.ensures.value c.self.invariant.2
+pub gain-requires-2-clause-knows : goal.gain-requires-2-clause-knows
+gain-requires-2-clause-knows c = rw c.deref-5.ensures.value c.self.invariant.2
 
-pub gained-requires-2-clause-own : goal.gained-requires-2-clause-own
-gained-requires-2-clause-own c =
+pub gain-requires-2-clause-own : goal.gain-requires-2-clause-own
+gain-requires-2-clause-own c =
     let at = rw (c.deref.ensures.value, c.deref-2.ensures.value) at c.in_ok-texts.ensures.numbers in
     rw c.deref-5.ensures.value
     (own_apart c.self.inside.texts.items c.others.inside.texts.items _ c.self.inside.numbered.items
     c.others.inside.numbered.items c.in_ok-texts.texts.numbers.items c.others.invariant.0 at
     (rw (← c.self.view_is) at c.requires.own) (rw (← c.others.view_is) at c.requires.others))
 
-pub gained-requires-2-clause-others : goal.gained-requires-2-clause-others
-gained-requires-2-clause-others c =
+pub gain-requires-2-clause-others : goal.gain-requires-2-clause-others
+gain-requires-2-clause-others c =
     let at = rw (c.deref.ensures.value, c.deref-2.ensures.value) at c.in_ok-texts.ensures.numbers in
     rw (c.deref-6.ensures.value, c.in_ok-others.ensures, c.deref-3.ensures.value, c.deref-4.ensures.value)
     (others_apart c.self.inside.texts.items c.others.inside.texts.items _ c.self.inside.numbered.items
@@ -70,14 +70,14 @@ invariant_of-self-2 c =
     rw (c.append_all.ensures, c.append_all-2.ensures, c.reserve.ensures.items, c.reserve-2.ensures.items) (
       record {
         differ = apart;
-        known = keys_known c.self.inside.texts.items c.others.inside.texts.items _ c.self.inside.numbered.items
+        of_texts = keys_known c.self.inside.texts.items c.others.inside.texts.items _ c.self.inside.numbered.items
             c.others.inside.numbered.items c.in_ok-functions.functions.added.items c.in_ok-texts.texts.numbers.items
             c.self.invariant.0 c.others.invariant.0
             (λ n text there. slice_get_kept c.self.inside.texts.items c.in_ok-texts.texts.added.items n text there) at apart more;
       },
-      knows_more text_order c.self.inside.texts.items c.in_ok-texts.texts.added.items c.gained.new.self
+      knows_more text_order c.self.inside.texts.items c.in_ok-texts.texts.added.items c.gain.new.self
           (rw c.deref.ensures.value at c.in_ok-texts.ensures.knows),
-      knows_more numbers_order c.self.inside.numbered.items c.in_ok-functions.functions.added.items c.gained-2.new.self
+      knows_more numbers_order c.self.inside.numbered.items c.in_ok-functions.functions.added.items c.gain-2.new.self
           (rw c.deref-5.ensures.value at c.in_ok-functions.ensures.knows),
     )
 

@@ -9,8 +9,8 @@ invariant_of-self c =
     let texts = c.self.inside.texts.items in (
       record {
         differ = c.self.invariant.0.differ;
-        known = rw c.truncate.ensures.items
-            (All-take (IsOfTexts (length texts)) c.args.count c.self.inside.numbered.items c.self.invariant.0.known);
+        of_texts = rw c.truncate.ensures.items
+            (All-take (IsOfTexts (length texts)) c.args.count c.self.inside.numbered.items c.self.invariant.0.of_texts);
       },
       c.self.invariant.1,
       c.new.ensures c.truncate.new.self.items,

@@ -2,8 +2,8 @@ use Rattle.std.proofs.Common.{length, ap, arith}
 use Rattle.cg_read.proofs.WidthLemmas.{no_longer, other_is_longer}
 use Rattle.cg_read.proofs.profile.Profile.append_wider.Goals as goal
 
-pub widened-requires : goal.widened-requires
-widened-requires c = no_longer c.args.other.now.events c.args.self.now.events c.requires.events
+pub wider_copy-requires : goal.wider_copy-requires
+wider_copy-requires c = no_longer c.args.other.now.events c.args.self.now.events c.requires.events
 
 pub append-requires-clause-few : goal.append-requires-clause-few
 append-requires-clause-few c = omega (arith, ap length c.in_ok-joined.ensures.events)

@@ -1,5 +1,5 @@
 use Rattle.std.proofs.Common.{◌∙◌, refl}
-use Rattle.cg_lines.specs.Positions.{place_at}
+use Rattle.cg_lines.specs.Positions.{position_at}
 use Rattle.cg_read.specs.Meaning as meaning
 use Rattle.cg_read.proofs.KnowingLemmas.{callee_is, calls_sound, is_some-map}
 use Rattle.cg_read.proofs.reader.Reader.calls_line.Goals as goal
@@ -19,8 +19,8 @@ returns c = λ before k.
         open_call = (is.0, rw c.in-Fits.is refl);
       },
       calls_sound (meaning.events before) (meaning.callee_name before) c.args.count
-          (place_at (meaning.position before) c.args.place)
+          (position_at (meaning.position before) c.args.place)
           (rw (← k.rows.names) (is_some-map _ c.args.self.now.events ∙ c.if-is_none.ensures)) is.1
           (rw c.in-Fits.is refl)
-          (rw (← k.position, ← c.place_at.ensures) c.if-is_none-2.ensures),
+          (rw (← k.position, ← c.position_at.ensures) c.if-is_none-2.ensures),
     )

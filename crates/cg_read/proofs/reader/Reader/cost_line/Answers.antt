@@ -3,7 +3,7 @@ use Rattle.cg_read.specs.inner.Knowing.{KnowsIds, KnowsCurrent, KnowsCallee, Ope
 use Rattle.cg_read.specs.inner.Drafts.{Holds}
 use Rattle.cg_read.specs.Meaning as meaning
 use Rattle.cg_read.specs.Meaning.{numbers_fault, numbers, cost_of, self_if, call_if}
-use Rattle.cg_lines.specs.Positions.{place_at}
+use Rattle.cg_lines.specs.Positions.{position_at}
 use Rattle.cg_read.specs.declared.reader.Reader.{Reader}
 use Rattle.cg_read.proofs.KnowingLemmas.{draft_row, length-padded}
 use Rattle.cg_read.proofs.reader.Reader.cost_line.Goals as goal
@@ -18,8 +18,8 @@ returns c = λ before k.
     = rw (count, c.as_bytes.ensures) at c.in_ok-cost.ensures.sound in
     let cost_is : c.in_ok-cost.cost ≡ cost_of before c.args.costs.now
     = rw (count, c.as_bytes.ensures) at c.in_ok-cost.ensures.costs in
-    let place_is : Some c.in-Some-place_at.line ≡ place_at (meaning.position before) c.args.place
-    = rw k.position at c.in-Some-place_at.ensures in (
+    let place_is : Some c.in-Some-position_at.line ≡ position_at (meaning.position before) c.args.place
+    = rw k.position at c.in-Some-position_at.ensures in (
       record {
         rows = record {
           names = ap (λ (r : Reader). option_map (λ v. v.items) r.events) same ∙ k.rows.names;

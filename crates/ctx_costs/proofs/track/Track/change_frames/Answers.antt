@@ -1,7 +1,7 @@
 use Rattle.std.proofs.Common.{◌≡◌, ◌-◌, ℕ, ap, drop, is_some, length, refl, subst, sym, take, ◌∙◌}
-use Rattle.shadow_stack.specs.Changes.{change, gone}
+use Rattle.shadow_stack.specs.Changes.{change, drop_count}
 use Rattle.shadow_stack.specs.Frames.{closings, stack}
-use Rattle.recorder.specs.inner.Tellers.{CanTell, RowsTold}
+use Rattle.recorder.specs.inner.Tellers.{CanTell, RowsAfterTellings}
 use Rattle.ctx_costs.specs.inner.Tracks.{frames_of}
 use Rattle.ctx_costs.proofs.PushLemmas.{left_of, pushes_told}
 use Rattle.ctx_costs.proofs.track.Track.change_frames.Goals as goal
@@ -18,7 +18,7 @@ comes g c =
 -- how many frames go
 left : (g : _) (c : After-kept_of-kept g)
     → length c.args.self.now.frames.items - c.kept_of-kept.result
-    ≡ gone c.args.syms.now c.args.event.now (stack c.args.self.now.stack.frames)
+    ≡ drop_count c.args.syms.now c.args.event.now (stack c.args.self.now.stack.frames)
 left g c =
     let b = c.args.self.now in
     left_of c.args.syms.now c.args.event.now b.stack.frames c.after.new.self.frames b.frames.items
@@ -42,5 +42,5 @@ returns-clause-frames g c =
 pub returns-clause-told : goal.returns-clause-told
 returns-clause-told g c =
     let b = c.args.self.now in
-    subst (λ (n : ℕ). RowsTold b.rows (closings b.total (take n (frames_of b))) c.leave.new.self.rows)
+    subst (λ (n : ℕ). RowsAfterTellings b.rows (closings b.total (take n (frames_of b))) c.leave.new.self.rows)
     (left g (goal.at.returns-clause-told g c).After-kept_of-kept) c.leave.ensures.told

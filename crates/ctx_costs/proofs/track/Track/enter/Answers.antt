@@ -2,7 +2,7 @@ use Rattle.std.proofs.Common.{◌≡◌, [], ◌∷◌, ap, subst}
 use Rattle.event_costs.specs.Arcs.{Pushed}
 use Rattle.event_costs.specs.Keys.{ArcKey, Place}
 use Rattle.arc_costs.specs.Arcs.{has_arc}
-use Rattle.recorder.specs.inner.Tellers.{RowsTold}
+use Rattle.recorder.specs.inner.Tellers.{RowsAfterTellings}
 use Rattle.recorder.proofs.TellingLemmas.{at_most_one, row_told}
 use Rattle.ctx_rows.specs.States.{entering_arc, top_number}
 use Rattle.ctx_costs.specs.inner.Tracks.{frames_of}
@@ -21,7 +21,7 @@ returns-clause-told g c =
       callee = number;
     } in
     let one = c.count_call.ensures in
-    subst (λ (a : ArcKey). RowsTold c.args.self.now.rows (Pushed a ∷ []) c.count_call.new.self) is
+    subst (λ (a : ArcKey). RowsAfterTellings c.args.self.now.rows (Pushed a ∷ []) c.count_call.new.self) is
     (row_told c.args.self.now.rows c.count_call.new.self (Pushed arc) one.arcs one.lines one.keys
     one.stands one.line_room
     (at_most_one (has_arc arc c.args.self.now.rows.arcs) c.args.self.now.rows.arc_room c.count_call.new.self.arc_room

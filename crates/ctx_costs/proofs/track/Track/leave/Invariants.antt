@@ -1,7 +1,7 @@
 use Rattle.std.proofs.Common.{◌≡◌, ◌-◌, ◌≤◌, drop, length, take, vec_capacity}
 use Rattle.arc_costs.specs.Contents.{Contents}
 use Rattle.shadow_stack.specs.Frames.{StartWithin, closings}
-use Rattle.recorder.specs.inner.Tellers.{CanTell, RowsTold}
+use Rattle.recorder.specs.inner.Tellers.{CanTell, RowsAfterTellings}
 use Rattle.ctx_costs.specs.inner.Tracks.{SameThread, frames_of}
 use Rattle.ctx_costs.proofs.track.Track.leave.Given as goal
 
@@ -13,9 +13,9 @@ invariant-frames g l = record {
   frames : drop (length l.self.frames.items - l.kept) (frames_of l.self)
       ≡ drop (length l.initial.self.frames.items - l.kept) (frames_of l.initial.self);
   told : (new : Contents)
-      → RowsTold l.self.rows
+      → RowsAfterTellings l.self.rows
       (closings l.self.total (take (length l.self.frames.items - l.kept) (frames_of l.self))) new
-      → RowsTold l.initial.self.rows
+      → RowsAfterTellings l.initial.self.rows
       (closings l.initial.self.total
       (take (length l.initial.self.frames.items - l.kept) (frames_of l.initial.self))) new;
   stack : l.self.stack ≡ l.initial.self.stack;

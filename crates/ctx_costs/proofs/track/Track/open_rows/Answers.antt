@@ -8,23 +8,23 @@ use Rattle.shadow_stack.specs.Frames.{closing, closings}
 use Rattle.shadow_stack.specs.declared.frame.Frame.{Frame}
 use Rattle.arc_costs.specs.Rows.{ArcRow}
 use Rattle.arc_costs.proofs.RowLemmas.{next_taken}
-use Rattle.recorder.specs.Notes.{told_rows}
-use Rattle.recorder.specs.inner.TellerLaws.{told_rows-append}
+use Rattle.recorder.specs.Notes.{rows_of_tellings}
+use Rattle.recorder.specs.inner.TellerLaws.{rows_of_tellings-append}
 use Rattle.ctx_costs.proofs.LeaveLemmas.{closing_some}
 use Rattle.ctx_costs.proofs.track.Track.open_rows.Goals as goal
 use Rattle.ctx_costs.proofs.track.Track.open_rows.Goals.{in-Some+in_ok-push, in_default}
 
 -- what is told of the next frame comes behind what is told of those before it
 one_more : (total : List ℕ) (fs : List Frame) (k : ℕ) (f : Frame) (ts : List Telling) (rows : List ArcRow)
-    → k < length fs → f ≡ get_or fs k f → closing total f ≡ ts → rows ≡ told_rows (closings total (take k fs))
-    → rows ++ told_rows ts ≡ told_rows (closings total (take (k + 1) fs))
+    → k < length fs → f ≡ get_or fs k f → closing total f ≡ ts → rows ≡ rows_of_tellings (closings total (take k fs))
+    → rows ++ rows_of_tellings ts ≡ rows_of_tellings (closings total (take (k + 1) fs))
 one_more total fs k f ts rows less is told before =
-    ap (λ (rs : List ArcRow). rs ++ told_rows ts) before
-    ∙ ap (λ (us : List Telling). told_rows (closings total (take k fs)) ++ told_rows us)
+    ap (λ (rs : List ArcRow). rs ++ rows_of_tellings ts) before
+    ∙ ap (λ (us : List Telling). rows_of_tellings (closings total (take k fs)) ++ rows_of_tellings us)
     (sym (append-nil (closing total f) ∙ told))
-    ∙ sym (told_rows-append (closings total (take k fs)) (closings total (f ∷ [])))
-    ∙ ap told_rows (sym (flat_map-append (closing total) (take k fs) (f ∷ [])))
-    ∙ ap (λ (gs : List Frame). told_rows (closings total gs)) (sym (next_taken fs k f less is))
+    ∙ sym (rows_of_tellings-append (closings total (take k fs)) (closings total (f ∷ [])))
+    ∙ ap rows_of_tellings (sym (flat_map-append (closing total) (take k fs) (f ∷ [])))
+    ∙ ap (λ (gs : List Frame). rows_of_tellings (closings total gs)) (sym (next_taken fs k f less is))
 
 pub frames-preserved : goal.frames-preserved
 frames-preserved g c =

@@ -1,6 +1,6 @@
 use Rattle.std.proofs.Common.{◌≡◌, ◌∙◌, List, Some, ap, false, subst, sym, true}
 use Rattle.recorder.proofs.RecordingLemmas.{any-map}
-use Rattle.ctx_rows.specs.States.{State, after_part, is_of, knows}
+use Rattle.ctx_rows.specs.States.{CtxState, after_part, is_track_of, knows}
 use Rattle.ctx_rows.proofs.NumberLemmas.{true_false}
 use Rattle.ctx_costs.specs.inner.Tracks.{Book, IsPlaceOf, track_of}
 use Rattle.ctx_costs.proofs.ReadyLemmas.{is_there}
@@ -11,8 +11,8 @@ pub unreachable-requires : goal.unreachable-requires
 unreachable-requires c =
     let thread = c.args.thread in
     let known : is_there thread c.self.inside.tracks.items ≡ true
-    = sym (any-map (is_of thread) track_of c.self.inside.tracks.items)
-    ∙ ap (λ (w : State). knows w thread) c.self.view_is ∙ c.requires.known in
+    = sym (any-map (is_track_of thread) track_of c.self.inside.tracks.items)
+    ∙ ap (λ (w : CtxState). knows w thread) c.self.view_is ∙ c.requires.known in
     let none : is_there thread c.self.inside.tracks.items ≡ false
     = ap (is_there thread) (sym c.deref.ensures.value) ∙ c.in_default.ensures in
     true_false (sym known ∙ none)
@@ -42,4 +42,4 @@ returns c =
     c.self.inside.roomy c.self.invariant) c.args.thread c.in-Some.place at.0 at.1 c.index_mut.result.now _ c.index_mut.ensures.value
     c.cut.new.self
     c.cut.ensures.frames c.cut.ensures.lines c.cut.ensures.arcs c.cut.ensures.stack c.cut.ensures.same
-    ∙ ap (λ (w : State). after_part w c.args.thread) c.self.view_is
+    ∙ ap (λ (w : CtxState). after_part w c.args.thread) c.self.view_is

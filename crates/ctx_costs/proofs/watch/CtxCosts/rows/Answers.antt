@@ -2,7 +2,7 @@ use Rattle.std.proofs.Common.{◌≡◌, ◌∙◌, List, Some, ap, false, map, 
 use Rattle.recorder.proofs.RecordingLemmas.{any-map}
 use Rattle.ctx_rows.specs.Rows.{CtxListed}
 use Rattle.ctx_rows.specs.Telling.{rows_in}
-use Rattle.ctx_rows.specs.States.{State, is_of, knows}
+use Rattle.ctx_rows.specs.States.{CtxState, is_track_of, knows}
 use Rattle.ctx_rows.proofs.NumberLemmas.{true_false}
 use Rattle.ctx_costs.specs.inner.Naming.{AreNamedRows}
 use Rattle.ctx_costs.specs.inner.Tracks.{Book, IsPlaceOf, track_of}
@@ -15,8 +15,8 @@ pub unreachable-requires : goal.unreachable-requires
 unreachable-requires c =
     let thread = c.args.thread in
     let known : is_there thread c.self.inside.tracks.items ≡ true
-    = sym (any-map (is_of thread) track_of c.self.inside.tracks.items)
-    ∙ ap (λ (w : State). knows w thread) c.self.view_is ∙ c.requires.known in
+    = sym (any-map (is_track_of thread) track_of c.self.inside.tracks.items)
+    ∙ ap (λ (w : CtxState). knows w thread) c.self.view_is ∙ c.requires.known in
     let none : is_there thread c.self.inside.tracks.items ≡ false
     = ap (is_there thread) (sym c.deref.ensures.value) ∙ c.in_default.ensures in
     true_false (sym known ∙ none)
@@ -59,7 +59,7 @@ returns c =
     let at : IsPlaceOf c.self.inside.tracks.items c.args.thread (Some c.in-Some.place)
     = subst (λ (bs : List Book). IsPlaceOf bs c.args.thread (Some c.in-Some.place)) c.deref.ensures.value
     c.in-Some.ensures in
-    let w : State = record {
+    let w : CtxState = record {
       callers = c.self.inside.callers;
       contexts = c.self.inside.contexts.contexts;
       tracks = map track_of c.self.inside.tracks.items;
@@ -79,6 +79,6 @@ returns c =
           c.self.invariant c.args.thread c.in-Some.place at.0 at.1 c.index.result.now _ c.index.ensures).sound
           c.self.invariant.distinct c.in_ok-rows.rows c.in_ok-rows.ensures.rows c.in_ok-rows.ensures.whole_lines
           c.in_ok-rows.ensures.whole_arcs named are)
-          ∙ ap (λ (v : State). rows_in v c.args.thread) c.self.view_is)
+          ∙ ap (λ (v : CtxState). rows_in v c.args.thread) c.self.view_is)
           c.named_rows.ensures.thread c.named_rows.ensures.rows;
     }

@@ -22,8 +22,8 @@ invariant_of-self-in_default c =
     let len : length more ≡ length texts + 1 = length-append texts (c.args.text ∷ []) in
     let long : length (numbers ++ number ∷ []) ≡ length numbers + 1 = length-append numbers (number ∷ []) in
     rw (c.in_default.ensures.items, c.in_ok-push.ensures.items) (record {
-      known = all_pushed (λ n. n < length more) numbers number
-          (all_more (length texts) (length more) numbers (omega (arith, len)) c.self.invariant.known)
+      in_range = all_pushed (λ n. n < length more) numbers number
+          (all_more (length texts) (length more) numbers (omega (arith, len)) c.self.invariant.in_range)
           (omega (arith, len, is));
       few = omega (arith, len, long, c.self.invariant.few);
     })
@@ -35,5 +35,5 @@ returns c =
     let is : c.len-count.result ≡ length texts = omega (arith, c.len-count.ensures, c.self.inside.texts.ok.0) in
     ap (λ (ns : List ℕ). files_by ns c.push.new.self.items) c.in_default.ensures.items
     ∙ ap (files_by (numbers ++ c.len-count.result ∷ [])) c.in_ok-push.ensures.items
-    ∙ file_pushed numbers texts c.args.text c.len-count.result c.self.invariant.known is
+    ∙ file_pushed numbers texts c.args.text c.len-count.result c.self.invariant.in_range is
     ∙ ap (λ (fs : List (List ℕ)). fs ++ c.args.text ∷ []) c.self.view_is

@@ -1,7 +1,7 @@
 use Rattle.std.proofs.Common.{◌≡◌}
 use Rattle.std.specs.Prelude.{find}
 use Rattle.dwarf_line.specs.LineRow.{covers, line_address}
-use Rattle.dwarf_line.specs.LineTable.{sequences_of}
+use Rattle.dwarf_line.specs.Rows.{sequences_of}
 use Rattle.dwarf_line.proofs.LookUp.{found_from}
 use Rattle.dwarf_line.proofs.line_table.Rows.row_at.Given as goal
 

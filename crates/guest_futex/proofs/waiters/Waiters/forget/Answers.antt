@@ -1,18 +1,18 @@
 use Rattle.std.proofs.Common.{◌≡◌, ◌==◌, not, ◌+◌, List, length, sym, ap, subst, ◌∙◌, arith, rules}
 use Rattle.std.proofs.lemmas.Bool.Decides.{nat_tests}
 use Rattle.std.proofs.lemmas.Fn.{filter_same}
-use Rattle.guest_futex.specs.Waits.{Wait, times_waiting, forgotten}
+use Rattle.guest_futex.specs.Waits.{Wait, times_waiting, forget_thread}
 use Rattle.guest_futex.specs.inner.Order.{IsInOrder}
 use Rattle.guest_futex.proofs.WaitLaws.{length-forgotten, once-forgotten, times_waiting-forgotten_self}
 use Rattle.guest_futex.proofs.OrderLaws.{rising-filter}
 use Rattle.guest_futex.proofs.StepLaws.{in_order}
 use Rattle.guest_futex.proofs.waiters.Waiters.forget.Goals as goal
 
-after : (c : goal.After-len) → c.retain.new.self.items ≡ forgotten c.args.thread c.args.self.now.waits
+after : (c : goal.After-len) → c.retain.new.self.items ≡ forget_thread c.args.thread c.args.self.now.waits
 after c =
     filter_same _ (λ (w : Wait). not (w.thread.0 == c.args.thread.0)) _
     (λ w b f' h. search rules) _ _ c.retain.ensures.filtered
-    ∙ ap (λ q. forgotten c.args.thread q.waits) c.self.view_is
+    ∙ ap (λ q. forget_thread c.args.thread q.waits) c.self.view_is
 
 number : (c : goal.After-len) → length c.retain.new.self.items + times_waiting c.args.thread c.args.self.now.waits
     ≡ length c.args.self.now.waits

@@ -1,5 +1,5 @@
 use Rattle.std.proofs.Common.{◌≡◌, ◌-◌, ◌≤◌, ◌++◌, length, min, sym, ap, subst, ◌∙◌, arith}
-use Rattle.guest_futex.specs.Waits.{waiters_at, woken, still, moved}
+use Rattle.guest_futex.specs.Waits.{waiters_at, woken_at, without_woken, requeue_at}
 use Rattle.guest_futex.specs.inner.Order.{IsRising, IsInOrder}
 use Rattle.guest_futex.proofs.WaitLaws.{block, length-waiters_at, length-moved, once-moved, waiters_at-moved_to}
 use Rattle.guest_futex.proofs.WaitLaws.{waiters_at-moved_from, waiters_at-moved_other}
@@ -28,7 +28,7 @@ overflow_sub-rest c =
     )
 
 rest : (c : After-len)
-    → c.len.result - c.min-count.result ≡ length (still c.args.from c.min-count.result c.self.inside.waits.items)
+    → c.len.result - c.min-count.result ≡ length (without_woken c.args.from c.min-count.result c.self.inside.waits.items)
 rest c =
     length-left c.args.from c.min-count.result (c.len.result - c.min-count.result) c.self.inside.waits.items (most c)
     (omega (arith, c.len.ensures, c.self.inside.waits.ok.0, most c, length-waiters_at c.args.from c.self.inside.waits.items))
@@ -50,8 +50,8 @@ pub bring_in-requires-clause-rising : goal.bring_in-requires-clause-rising
 bring_in-requires-clause-rising c =
     subst (IsRising 0)
     (sym (front_is (c.len.result - c.min-count.result) c.deref_mut-2.result.now
-    (still c.args.from c.min-count.result c.self.inside.waits.items)
-    (block c.args.from (woken c.args.from c.min-count.result c.self.inside.waits.items)) (out (goal.at.bring_in-requires-clause-rising c).After-deref_mut-2) (rest (goal.at.bring_in-requires-clause-rising c).After-len)))
+    (without_woken c.args.from c.min-count.result c.self.inside.waits.items)
+    (block c.args.from (woken_at c.args.from c.min-count.result c.self.inside.waits.items)) (out (goal.at.bring_in-requires-clause-rising c).After-deref_mut-2) (rest (goal.at.bring_in-requires-clause-rising c).After-len)))
     (rising-still c.args.from c.min-count.result c.self.inside.waits.items c.self.invariant.rising)
 
 pub returns-clause-moved : goal.returns-clause-moved
@@ -61,8 +61,8 @@ returns-clause-moved c =
     ∙ c.bring_in.ensures
     ∙ brought-moved c.args.from c.min-count.result (c.len.result - c.min-count.result) c.args.to
     c.deref_mut-2.result.now c.self.inside.waits.items (out (goal.at.returns-clause-moved c).After-deref_mut-2) (rest (goal.at.returns-clause-moved c).After-len)
-    ∙ ap (λ q. moved c.args.from c.min-count.result c.args.to q.waits) c.self.view_is
-    ∙ ap (λ k. moved c.args.from k c.args.to c.args.self.now.waits) (counted (goal.at.returns-clause-moved c).After-len)
+    ∙ ap (λ q. requeue_at c.args.from c.min-count.result c.args.to q.waits) c.self.view_is
+    ∙ ap (λ k. requeue_at c.args.from k c.args.to c.args.self.now.waits) (counted (goal.at.returns-clause-moved c).After-len)
     ∙ moved-least c.args.from c.args.n c.args.to c.args.self.now.waits
 
 pub invariant_of-self : goal.invariant_of-self
@@ -81,7 +81,7 @@ returns-clause-last c = ap (waiters_at c.args.to) (returns-clause-moved c)
 pub returns-clause-rest : goal.returns-clause-rest
 returns-clause-rest c = λ differs.
     waiters_at-moved_from c.args.from c.args.n c.args.to c.args.self.now.waits differs
-    ∙ ap (λ l. woken c.args.from c.args.n c.args.self.now.waits ++ waiters_at c.args.from l)
+    ∙ ap (λ l. woken_at c.args.from c.args.n c.args.self.now.waits ++ waiters_at c.args.from l)
     (sym (returns-clause-moved c))
 
 pub returns-clause-others : goal.returns-clause-others

@@ -1,5 +1,5 @@
 use Rattle.std.proofs.Common.{◌≡◌, ◌++◌, [], ◌∷◌, length, ap, subst, sym, ◌∙◌, arith}
-use Rattle.guest_futex.specs.Waits.{wait_at, waiters_at, EachWaitsOnce, queued}
+use Rattle.guest_futex.specs.Waits.{wait_at, waiters_at, EachWaitsOnce, enqueue}
 use Rattle.guest_futex.specs.inner.Order.{IsRising, IsInOrder}
 use Rattle.guest_futex.proofs.WaitLaws.{waiters_at-queued, waiters_at-queued_other, once-queued, length-queued}
 use Rattle.guest_futex.proofs.OrderLaws.{rising-queued}
@@ -28,7 +28,7 @@ returns-clause-queued c =
     (omega (arith, c.bring_in.auto.waits, c.deref_mut.ensures.len)) ∙ c.bring_in.ensures
     ∙ brought-queued c.args.thread c.args.addr c.len-rest.result c.deref_mut.result.now c.self.inside.waits.items
     (pushed (goal.at.returns-clause-queued c).After-deref_mut) (rest (goal.at.returns-clause-queued c).After-deref_mut)
-    ∙ ap (λ q. queued c.args.thread c.args.addr q.waits) c.self.view_is
+    ∙ ap (λ q. enqueue c.args.thread c.args.addr q.waits) c.self.view_is
 
 pub invariant_of-self : goal.invariant_of-self
 invariant_of-self c =

@@ -2,7 +2,7 @@ use Rattle.std.proofs.Common.{◌≡◌, ◌-◌, ◌≤◌, ◌++◌, List, len
 use Rattle.std.specs.List.{between}
 use Rattle.std.proofs.lemmas.Slice.{between_to_end}
 use Rattle.event_costs.specs.declared.numbers.ThreadNo.{ThreadNo}
-use Rattle.guest_futex.specs.Waits.{threads_of, waiters_at, woken, still}
+use Rattle.guest_futex.specs.Waits.{threads_of, waiters_at, woken_at, without_woken}
 use Rattle.guest_futex.specs.inner.Order.{IsInOrder}
 use Rattle.guest_futex.proofs.WaitLaws.{block, length-waiters_at, length-still, once-still, waiters_at-still}
 use Rattle.guest_futex.proofs.WaitLaws.{waiters_at-still_other}
@@ -32,7 +32,7 @@ overflow_sub-rest c =
     )
 
 rest : (c : After-len)
-    → c.len.result - c.min-count.result ≡ length (still c.args.addr c.min-count.result c.self.inside.waits.items)
+    → c.len.result - c.min-count.result ≡ length (without_woken c.args.addr c.min-count.result c.self.inside.waits.items)
 rest c =
     length-left c.args.addr c.min-count.result (c.len.result - c.min-count.result) c.self.inside.waits.items (most c)
     (omega (arith, c.len.ensures, c.self.inside.waits.ok.0, most c, length-waiters_at c.args.addr c.self.inside.waits.items))
@@ -59,18 +59,18 @@ returns-clause-first c =
     ∙ ap threads_of (between_to_end all (c.len.result - c.min-count.result) (length all) (omega arith))
     ∙ taken-apart c.args.addr c.min-count.result (c.len.result - c.min-count.result) all c.self.inside.waits.items
     (out (goal.at.returns-clause-first c).After-deref) (rest (goal.at.returns-clause-first c).After-len)
-    ∙ ap (λ q. woken c.args.addr c.min-count.result q.waits) c.self.view_is
-    ∙ ap (λ k. woken c.args.addr k c.args.self.now.waits) (counted (goal.at.returns-clause-first c).After-len)
+    ∙ ap (λ q. woken_at c.args.addr c.min-count.result q.waits) c.self.view_is
+    ∙ ap (λ k. woken_at c.args.addr k c.args.self.now.waits) (counted (goal.at.returns-clause-first c).After-len)
     ∙ woken-least c.args.addr c.args.n c.args.self.now.waits
 
 pub returns-clause-still : goal.returns-clause-still
 returns-clause-still c =
     c.truncate.ensures.items
-    ∙ front_is (c.len.result - c.min-count.result) _ (still c.args.addr c.min-count.result c.self.inside.waits.items)
-    (block c.args.addr (woken c.args.addr c.min-count.result c.self.inside.waits.items))
+    ∙ front_is (c.len.result - c.min-count.result) _ (without_woken c.args.addr c.min-count.result c.self.inside.waits.items)
+    (block c.args.addr (woken_at c.args.addr c.min-count.result c.self.inside.waits.items))
     (sym c.deref.ensures.value ∙ out (goal.at.returns-clause-still c).After-deref) (rest (goal.at.returns-clause-still c).After-len)
-    ∙ ap (λ q. still c.args.addr c.min-count.result q.waits) c.self.view_is
-    ∙ ap (λ k. still c.args.addr k c.args.self.now.waits) (counted (goal.at.returns-clause-still c).After-len)
+    ∙ ap (λ q. without_woken c.args.addr c.min-count.result q.waits) c.self.view_is
+    ∙ ap (λ k. without_woken c.args.addr k c.args.self.now.waits) (counted (goal.at.returns-clause-still c).After-len)
     ∙ still-least c.args.addr c.args.n c.args.self.now.waits
 
 pub invariant_of-self : goal.invariant_of-self
@@ -85,7 +85,7 @@ invariant_of-self c =
 pub returns-clause-rest : goal.returns-clause-rest
 returns-clause-rest c =
     waiters_at-still c.args.addr c.args.n c.args.self.now.waits
-    ∙ ap (λ l. woken c.args.addr c.args.n c.args.self.now.waits ++ waiters_at c.args.addr l)
+    ∙ ap (λ l. woken_at c.args.addr c.args.n c.args.self.now.waits ++ waiters_at c.args.addr l)
     (sym (returns-clause-still c))
 
 pub returns-clause-others : goal.returns-clause-others

@@ -3,7 +3,7 @@ use Rattle.std.specs.Prelude.{Result, Ok, Err, Some, ◌↔◌, is_some}
 use Rattle.std.specs.Result.{IsErrAnd}
 use Rattle.guest_mem.specs.declared.error.MapError.{MapError}
 use Rattle.guest_mem.specs.declared.error.MapError.TheVariants.{Full, OutOfMemory}
-use Rattle.guest_mem.specs.Memory.{in_range, zeroed}
+use Rattle.guest_mem.specs.Memory.{in_range, zero_range}
 use Rattle.guest_mem.specs.inner.Page.{zero_page, memory_of_pages}
 use Rattle.guest_mem.specs.inner.Table.{AltersRange}
 use Rattle.guest_mem.specs.inner.Directory.{page_at}
@@ -84,8 +84,8 @@ returns-clause-ok c =
     let start : c.args.first / 4096 * 4096 ≡ c.args.first = omega arith in
     memory_of_pages-zeroed (page_at c.self.inside.directory) (page_at c.fill.new.self)
     (c.args.first / 4096) c.args.pages c.args.perm (whole_pages c.self.inside.directory) change
-    ∙ ap (λ a. zeroed (memory_of_pages (page_at c.self.inside.directory)) a (c.args.pages * 4096) c.args.perm) start
-    ∙ ap (λ m. zeroed m c.args.first (c.args.pages * 4096) c.args.perm) c.self.view_is
+    ∙ ap (λ a. zero_range (memory_of_pages (page_at c.self.inside.directory)) a (c.args.pages * 4096) c.args.perm) start
+    ∙ ap (λ m. zero_range m c.args.first (c.args.pages * 4096) c.args.perm) c.self.view_is
 
 pub returns-clause-full : goal.returns-clause-full
 returns-clause-full c =
@@ -98,5 +98,5 @@ returns-clause-full c =
 pub returns-clause-elsewhere : goal.returns-clause-elsewhere
 returns-clause-elsewhere c =
     elsewhere-by c.args.self.now (memory_of_pages (page_at c.fill.new.self))
-    (zeroed c.args.self.now c.args.first (c.args.pages * 4096) c.args.perm) c.args.first (c.args.pages * 4096)
+    (zero_range c.args.self.now c.args.first (c.args.pages * 4096) c.args.perm) c.args.first (c.args.pages * 4096)
     (returns-clause-ok c) (elsewhere-zeroed c.args.self.now c.args.first (c.args.pages * 4096) c.args.perm)

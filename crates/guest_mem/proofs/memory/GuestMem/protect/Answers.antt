@@ -1,5 +1,5 @@
 use Rattle.std.proofs.Common.{◌≡◌, ◌*◌, ◌/◌, sym, ◌∙◌, ap, arith}
-use Rattle.guest_mem.specs.Memory.{protected}
+use Rattle.guest_mem.specs.Memory.{protect_at}
 use Rattle.guest_mem.specs.inner.Page.{memory_of_pages}
 use Rattle.guest_mem.specs.inner.Directory.{page_at}
 use Rattle.guest_mem.proofs.Spans.{whole_pages}
@@ -19,11 +19,11 @@ returns-clause-after c =
     let start : c.args.first / 4096 * 4096 ≡ c.args.first = omega arith in
     memory_of_pages-protected (page_at c.self.inside.directory) (page_at c.protect_range.new.self)
     (c.args.first / 4096) c.args.pages c.args.perm (whole_pages c.self.inside.directory) c.protect_range.ensures
-    ∙ ap (λ a. protected (memory_of_pages (page_at c.self.inside.directory)) a (c.args.pages * 4096) c.args.perm) start
-    ∙ ap (λ m. protected m c.args.first (c.args.pages * 4096) c.args.perm) c.self.view_is
+    ∙ ap (λ a. protect_at (memory_of_pages (page_at c.self.inside.directory)) a (c.args.pages * 4096) c.args.perm) start
+    ∙ ap (λ m. protect_at m c.args.first (c.args.pages * 4096) c.args.perm) c.self.view_is
 
 pub returns-clause-elsewhere : goal.returns-clause-elsewhere
 returns-clause-elsewhere c =
     elsewhere-by c.args.self.now (memory_of_pages (page_at c.protect_range.new.self))
-    (protected c.args.self.now c.args.first (c.args.pages * 4096) c.args.perm) c.args.first (c.args.pages * 4096)
+    (protect_at c.args.self.now c.args.first (c.args.pages * 4096) c.args.perm) c.args.first (c.args.pages * 4096)
     (returns-clause-after c) (elsewhere-protected c.args.self.now c.args.first (c.args.pages * 4096) c.args.perm)

@@ -1,6 +1,6 @@
 use Rattle.std.proofs.Common.{[]}
 use Rattle.guest_sched.specs.declared.turns.Fate.TheVariants as fate
-use Rattle.guest_sched.specs.inner.Sound.{whole_of}
+use Rattle.guest_sched.specs.inner.Sound.{engine_of}
 use Rattle.guest_sched.proofs.CodeLemmas.{code-turned}
 use Rattle.guest_sched.proofs.EngineLemmas.{advanced_otherwise, advanced_retired, runner_is, sound_executed}
 use Rattle.guest_sched.proofs.engine.Engine.advance.Goals as goal
@@ -13,7 +13,7 @@ pass-requires-clause-sound c =
 pub returns-in-Retired-clause-code : goal.returns-in-Retired-clause-code
 returns-in-Retired-clause-code c =
     let ran = c.execute_in-stepped in
-    code-turned ran.new.code fate.Runs [] _ (whole_of c.pass.new.self) c.pass.ensures.turn ran.ensures.code
+    code-turned ran.new.code fate.Runs [] _ (engine_of c.pass.new.self) c.pass.ensures.turn ran.ensures.code
 
 pub returns-in-Retired-clause-step : goal.returns-in-Retired-clause-step
 returns-in-Retired-clause-step c =

@@ -1,6 +1,6 @@
 use Rattle.std.proofs.Common.{Ok, sym, subst, ◌∙◌}
 use Rattle.guest_sched.specs.declared.turns.Turn.{Turn}
-use Rattle.guest_sched.specs.Seen.{IsTurn, next}
+use Rattle.guest_sched.specs.Machine.{IsTurn, next}
 use Rattle.guest_sched.proofs.MachineLemmas.{next_ended}
 use Rattle.guest_sched.proofs.machine.Machine.next.Goals as goal
 

@@ -1,9 +1,9 @@
 use Rattle.std.proofs.Common.{◌-◌, length}
-use Rattle.key_tables.specs.Known.{Knows}
+use Rattle.key_tables.specs.Indexes.{Knows}
 use Rattle.key_tables.proofs.index.Index.learn.Given as goal
 
 abbrev pub decreases-keys : goal.decreases-keys
-decreases-keys g l = length l.keys - l.self.known
+decreases-keys g l = length l.keys - l.self.count
 
 abbrev pub invariant-keys : goal.invariant-keys
 invariant-keys g l = Knows g.K.Ord.cmp l.keys l.self

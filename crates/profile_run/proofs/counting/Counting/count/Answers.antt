@@ -71,20 +71,20 @@ returns-in_default-clause-counted g c =
     counts.by_other_costs g.W.Watch.meaning c.args.event.now c.args.self.now.machine c.args.self.now.costs
     c.plain_ones.new.self c.args.self.now.recorder c.args.watch.now c.args.syms.now
     (λ guest first past told. IsCounted g.W.Watch.meaning guest first past told c.args.rule.now.after
-    c.count_apart-noted.result
-    c.count_apart-noted.new.self.machine c.count_apart-noted.new.self.costs c.count_apart-noted.new.self.recorder
-    c.count_apart-noted.new.watch)
-    c.plain_ones.ensures.same c.count_apart-noted.ensures.counted
+    c.count_shell-noted.result
+    c.count_shell-noted.new.self.machine c.count_shell-noted.new.self.costs c.count_shell-noted.new.self.recorder
+    c.count_shell-noted.new.watch)
+    c.plain_ones.ensures.same c.count_shell-noted.ensures.counted
 
 pub returns-then-not-is_plain-clause-counted : goal.returns-then-not-is_plain-clause-counted
 returns-then-not-is_plain-clause-counted g c =
     counts.by_other_costs g.W.Watch.meaning c.args.event.now c.args.self.now.machine c.args.self.now.costs
     c.plain_ones.new.self c.args.self.now.recorder c.args.watch.now c.args.syms.now
     (λ guest first past told. IsCounted g.W.Watch.meaning guest first past told c.args.rule.now.after
-    c.count_apart-noted-then-not-is_plain.result
-    c.count_apart-noted-then-not-is_plain.new.self.machine c.count_apart-noted-then-not-is_plain.new.self.costs
-    c.count_apart-noted-then-not-is_plain.new.self.recorder c.count_apart-noted-then-not-is_plain.new.watch)
-    c.plain_ones.ensures.same c.count_apart-noted-then-not-is_plain.ensures.counted
+    c.count_shell-noted-then-not-is_plain.result
+    c.count_shell-noted-then-not-is_plain.new.self.machine c.count_shell-noted-then-not-is_plain.new.self.costs
+    c.count_shell-noted-then-not-is_plain.new.self.recorder c.count_shell-noted-then-not-is_plain.new.watch)
+    c.plain_ones.ensures.same c.count_shell-noted-then-not-is_plain.ensures.counted
 
 pub returns-clause-counted : goal.returns-clause-counted
 returns-clause-counted g c = λ guest first past made same long.

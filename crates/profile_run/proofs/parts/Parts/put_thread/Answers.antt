@@ -1,13 +1,13 @@
 use Rattle.std.proofs.Common.{◌≡◌, ℕ, List, [], ◌∷◌, length, option_map, Ok, Err, sym, subst, ap, ◌∙◌, refl}
 use Rattle.outside.specs.Files.{Files, SameBut, with_file}
 use Rattle.outside.specs.Outside.{shelf_of}
-use Rattle.outside.specs.Told.{Call, Put, TellsMore}
+use Rattle.outside.specs.Journal.{Call, Put, TellsMore}
 use Rattle.outside.specs.declared.folder.PutError.TheVariants.{Failed}
 use Rattle.sym_map.specs.SymbolMap.{SymbolMap}
 use Rattle.part_dump.specs.Calls.{head_of}
 use Rattle.part_dump.specs.Dumps.{IsUnput}
 use Rattle.part_dump.specs.Files.{part_name}
-use Rattle.profile_run.specs.Guest.{Options}
+use Rattle.profile_run.specs.Program.{Options}
 use Rattle.profile_run.specs.inner.Standing.{HasPut, calls_below, files_after}
 use Rattle.recorder.specs.inner.Known.{KnowsPlaces}
 use Rattle.recorder.proofs.AllRowLemmas.{are_whole}

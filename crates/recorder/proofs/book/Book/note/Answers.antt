@@ -9,7 +9,7 @@ use Rattle.event_costs.specs.Order.{same_place}
 use Rattle.recorder.specs.Sums.{entered_by, pushes}
 use Rattle.recorder.proofs.SumLemmas.{open_sum-grown}
 use Rattle.shadow_stack.specs.Arenas.{frames}
-use Rattle.shadow_stack.specs.Frames.{pushed, stack, StartWithin, tellings, frames_after}
+use Rattle.shadow_stack.specs.Frames.{pushed_activation, stack, StartWithin, tellings, frames_after}
 use Rattle.shadow_stack.specs.declared.frame.Frame.{Frame}
 use Rattle.arc_costs.specs.Arcs.{arc_sum, call_sum}
 use Rattle.arc_costs.specs.Rows.{ArcRow}
@@ -17,7 +17,7 @@ use Rattle.arc_costs.proofs.FitLemmas.{fits_from_numbers}
 use Rattle.arc_costs.proofs.RowLemmas.{number_of_sum}
 use Rattle.recorder.specs.Notes.{open_sum}
 use Rattle.recorder.specs.inner.Books.{AreEntered, AreKeyed}
-use Rattle.recorder.specs.inner.Tellers.{RowsTold}
+use Rattle.recorder.specs.inner.Tellers.{RowsAfterTellings}
 use Rattle.recorder.proofs.BookLemmas as book
 use Rattle.recorder.proofs.EnteredLemmas.{AreEntered-after}
 use Rattle.recorder.proofs.book.Book.note.Goals as goal
@@ -69,7 +69,7 @@ returns-clause-adds g c =
     let fs = frames c.args.arena.now.slots c.args.self.now.head in
     let sound = c.requires.kept.sound in
     let told =
-    subst (λ (total : List ℕ). RowsTold c.add_line-row.new.rows
+    subst (λ (total : List ℕ). RowsAfterTellings c.add_line-row.new.rows
     (tellings c.args.step.now.syms.now total fs c.args.step.now.event.now) c.change-changed.new.rows) c.add_total.ensures.sum
     c.change-changed.ensures.told in
     let now : frames c.change-changed.new.arena.slots c.change-changed.result.head
@@ -105,7 +105,7 @@ returns-clause-adds g c =
           book.event_calls c.args.step.now.syms.now c.add_total.new.total c.args.step.now.event.now fs c.add_line-row.new.rows
           c.change-changed.new.rows arc c.change-changed.ensures.told
           ∙ ap (λ (rs : List ArcRow). call_sum arc rs + pushes arc
-          (pushed c.args.step.now.syms.now c.args.step.now.event.now fs)) c.add_line-row.ensures.arcs;
+          (pushed_activation c.args.step.now.syms.now c.args.step.now.event.now fs)) c.add_line-row.ensures.arcs;
     }
 
 pub returns-clause-kept : goal.returns-clause-kept
@@ -153,7 +153,7 @@ returns-clause-arc_room g c =
       arith,
       c.change-changed.ensures.told.arc_room,
       c.add_line-row.ensures.arc_room,
-      book.told_event_pushes c.args.step.now.syms.now c.add_total.new.total c.args.step.now.event.now
+      book.tellings_pushes c.args.step.now.syms.now c.add_total.new.total c.args.step.now.event.now
           (frames c.args.arena.now.slots c.args.self.now.head),
     )
 

@@ -3,7 +3,7 @@ use Rattle.shadow_stack.specs.Arenas.{frames, LiesIn}
 use Rattle.shadow_stack.specs.declared.arena.Head.{Head}
 use Rattle.recorder.specs.Accounts.{Account}
 use Rattle.recorder.specs.Standing.{SameSums}
-use Rattle.recorder.specs.inner.Books.{account_in, IsKept, IsSound}
+use Rattle.recorder.specs.inner.Books.{account_in, IsSoundBook, IsSound}
 use Rattle.recorder.specs.declared.book.Book.{Book}
 use Rattle.recorder.proofs.BookLemmas.{sound_cut}
 use Rattle.recorder.proofs.StandingLemmas.{cleared_account, cut_rows, either_way, gives_same, if_err, if_ok, if_rows}
@@ -43,4 +43,4 @@ returns-clause-kept c =
           subst (λ (a : Account). IsSound a) (sym is)
           (sound_cut (account_in c.args.arena.now.slots c.args.self.now) c.requires.kept.sound);
     })
-    (λ same. subst (λ (b : Book). IsKept c.cut.new.arena.slots b) (sym same) c.cut.ensures.kept)
+    (λ same. subst (λ (b : Book). IsSoundBook c.cut.new.arena.slots b) (sym same) c.cut.ensures.kept)

@@ -3,7 +3,7 @@ use Rattle.shadow_stack.specs.Frames.{stack}
 use Rattle.shadow_stack.specs.Stacks.{top_of}
 use Rattle.shadow_stack.specs.declared.frame.Frame.{Frame}
 use Rattle.event_costs.specs.declared.numbers.FuncId.{FuncId}
-use Rattle.recorder.specs.Accounts.{account, Kept}
+use Rattle.recorder.specs.Accounts.{account, Ledger}
 use Rattle.recorder.specs.Lending.{recording, thread_of}
 use Rattle.recorder.proofs.RecordingLemmas as recordings
 use Rattle.recorder.proofs.lent.Lent.top.Goals as goal
@@ -11,8 +11,8 @@ use Rattle.recorder.proofs.lent.Lent.top.Goals as goal
 pub returns-clause-top : goal.returns-clause-top
 returns-clause-top c =
     let r = c.args.self.now.recorder.now in
-    let here = recordings.kept_there r c.args.self.now.thread c.args.self.now.place c.args.self.now.at in
-    c.top_at.ensures ∙ ap (λ (k : Kept). top_of (stack k.account.frames)) (sym here)
+    let here = recordings.ledger_there r c.args.self.now.thread c.args.self.now.place c.args.self.now.at in
+    c.top_at.ensures ∙ ap (λ (k : Ledger). top_of (stack k.account.frames)) (sym here)
 
 empty_top : (fs : List Frame) → top_of (stack fs) ≡ None → fs ≡ []
 empty_top [] none = refl

@@ -1,6 +1,6 @@
 use Rattle.std.proofs.Common.{is_some, ap, sym, subst, ◌∙◌}
-use Rattle.recorder.specs.Accounts.{Kept, Recording}
-use Rattle.recorder.proofs.KeptLemmas as books
+use Rattle.recorder.specs.Accounts.{Ledger, Recording}
+use Rattle.recorder.proofs.LedgerLemmas as books
 use Rattle.recorder.proofs.RecordingLemmas as recordings
 use Rattle.recorder.proofs.ActiveLemmas.{unmarked}
 use Rattle.recorder.specs.inner.Active.{AreMarked}
@@ -20,13 +20,13 @@ returns-in-Some c =
     let at = sym c.place_of.ensures.place ∙ c.in-Some.is in
     let within = books.within_books slots all c.args.self.now c.in-Some.place view
     (recordings.place_within c.args.self.now c.args.thread c.in-Some.place at) in
-    sym (ap (λ (k : Kept). k.account.had_event)
-    (recordings.kept_there c.args.self.now c.args.thread c.in-Some.place at
-    ∙ books.kept_place slots all c.args.self.now c.in-Some.place c.args.thread c.index.result.now view within
+    sym (ap (λ (k : Ledger). k.account.had_event)
+    (recordings.ledger_there c.args.self.now c.args.thread c.in-Some.place at
+    ∙ books.ledger_place slots all c.args.self.now c.in-Some.place c.args.thread c.index.result.now view within
     c.index.ensures))
 
 pub returns-in-None : goal.returns-in-None
 returns-in-None c =
-    sym (ap (λ (k : Kept). k.account.had_event)
-    (recordings.kept_unknown c.args.self.now c.args.thread
+    sym (ap (λ (k : Ledger). k.account.had_event)
+    (recordings.ledger_unknown c.args.self.now c.args.thread
     (sym c.place_of.ensures.found ∙ ap is_some c.in-None.is)))

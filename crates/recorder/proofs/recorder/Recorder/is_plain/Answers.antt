@@ -2,9 +2,9 @@ use Rattle.std.proofs.Common.{◌≡◌, true, ap, sym, subst, ◌∙◌}
 use Rattle.sym_map.specs.SymbolMap.{place_of}
 use Rattle.shadow_stack.specs.Frames.{stack}
 use Rattle.arc_costs.specs.Lines.{has_line}
-use Rattle.recorder.specs.Accounts.{account, Kept, kept, Recording}
-use Rattle.recorder.specs.inner.Books.{kept_of}
-use Rattle.recorder.proofs.KeptLemmas as books
+use Rattle.recorder.specs.Accounts.{account, Ledger, ledger, Recording}
+use Rattle.recorder.specs.inner.Books.{ledger_of}
+use Rattle.recorder.proofs.LedgerLemmas as books
 use Rattle.recorder.proofs.RecordingLemmas as recordings
 use Rattle.recorder.proofs.recorder.Recorder.is_plain.Goals as goal
 
@@ -17,11 +17,11 @@ returns-in-Some-clause-known c =
     let at = c.in-Some.ensures.at in
     let within = books.within_books slots all c.args.self.now c.in-Some.place view
     (recordings.place_within c.args.self.now c.args.event.now.thread c.in-Some.place at) in
-    let here : kept c.args.self.now c.args.event.now.thread ≡ kept_of slots c.index.result.now
-    = recordings.kept_there c.args.self.now c.args.event.now.thread c.in-Some.place at
-    ∙ books.kept_place slots all c.args.self.now c.in-Some.place c.args.event.now.thread c.index.result.now view within
+    let here : ledger c.args.self.now c.args.event.now.thread ≡ ledger_of slots c.index.result.now
+    = recordings.ledger_there c.args.self.now c.args.event.now.thread c.in-Some.place at
+    ∙ books.ledger_place slots all c.args.self.now c.in-Some.place c.args.event.now.thread c.index.result.now view within
     c.index.ensures in
-    subst (λ (k : Kept). has_line (place_of c.args.syms.now c.args.event.now.done.pc) k.account.lines ≡ true) (sym here)
+    subst (λ (k : Ledger). has_line (place_of c.args.syms.now c.args.event.now.done.pc) k.account.lines ≡ true) (sym here)
     (c.is_plain.ensures.known yes)
 
 pub returns-in-Some-clause-stays : goal.returns-in-Some-clause-stays

@@ -1,7 +1,7 @@
 use Rattle.std.proofs.Common.{ap, sym, ◌∙◌}
 use Rattle.recorder.specs.Accounts.{live, Recording}
-use Rattle.recorder.proofs.KeptLemmas as books
-use Rattle.recorder.proofs.KeptLemmas.{live_is}
+use Rattle.recorder.proofs.LedgerLemmas as books
+use Rattle.recorder.proofs.LedgerLemmas.{live_is}
 use Rattle.recorder.proofs.recorder.Recorder.live_frames.Goals as goal
 
 pub returns-clause-live : goal.returns-clause-live

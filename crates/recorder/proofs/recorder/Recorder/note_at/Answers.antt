@@ -5,15 +5,15 @@ use Rattle.sym_map.specs.SymbolMap.{place_of}
 use Rattle.event_costs.specs.declared.numbers.ThreadNo.{ThreadNo}
 use Rattle.shadow_stack.specs.Arenas.{frames, LeavesOthers}
 use Rattle.shadow_stack.specs.declared.arena.Node.{Node}
-use Rattle.shadow_stack.specs.Frames.{count_pushed, pushed, stack}
+use Rattle.shadow_stack.specs.Frames.{count_pushed, pushed_activation, stack}
 use Rattle.shadow_stack.specs.Stacks.{top_of}
 use Rattle.arc_costs.specs.Lines.{has_line}
-use Rattle.recorder.specs.Accounts.{Account, IsReady, Kept, live, Recording}
-use Rattle.recorder.specs.Notes.{noted}
-use Rattle.recorder.specs.inner.Books.{account_in, Adds, entered_in, kept_of}
-use Rattle.recorder.specs.inner.Places.{IsRemembered, kept_at}
+use Rattle.recorder.specs.Accounts.{Account, IsReady, Ledger, live, Recording}
+use Rattle.recorder.specs.Notes.{account_after_note}
+use Rattle.recorder.specs.inner.Books.{account_in, Adds, entered_in, ledger_of}
+use Rattle.recorder.specs.inner.Places.{IsRemembered, ledger_at}
 use Rattle.recorder.specs.declared.book.Book.{Book}
-use Rattle.recorder.proofs.KeptLemmas as books
+use Rattle.recorder.proofs.LedgerLemmas as books
 use Rattle.recorder.proofs.ActiveLemmas.{marked_after, ready_marked}
 use Rattle.recorder.specs.inner.Active.{AreMarked, IsMarkedReady}
 use Rattle.recorder.proofs.ReadyLemmas.{one_element, remembered_after}
@@ -42,14 +42,14 @@ after g c = c.note-noted.new.arena.slots
 
 abbrev now : (g : Given.Over) (c : goal.After-keep_where g) → Recording
 now g c = record {
-  threads = map (kept_of (after g c)) (set (all g c) c.args.place (new g c));
+  threads = map (ledger_of (after g c)) (set (all g c) c.args.place (new g c));
   spare = c.note-noted.new.arena.spare;
 }
 
 abbrev cost : (g : Given.Over) (c : goal.After-keep_where g) → List ℕ
 cost g c = g.C.EventCost.numbers c.args.cost.now
 
-view : (g : Given.Over) (c : goal.After-keep_where g) → c.args.self.now.threads ≡ map (kept_of (before g c)) (all g c)
+view : (g : Given.Over) (c : goal.After-keep_where g) → c.args.self.now.threads ≡ map (ledger_of (before g c)) (all g c)
 view g c = sym (ap (λ (r : Recording). r.threads) c.self.view_is)
 
 within : (g : Given.Over) (c : goal.After-keep_where g) → c.args.place < length (all g c)
@@ -74,15 +74,15 @@ one g c =
     c.self.invariant.0 (within g c)
 
 was : (g : Given.Over) (c : goal.After-keep_where g)
-    → kept_at c.args.self.now c.args.place c.args.event.now.thread ≡ kept_of (before g c) (book g c)
+    → ledger_at c.args.self.now c.args.place c.args.event.now.thread ≡ ledger_of (before g c) (book g c)
 was g c =
-    books.kept_place (before g c) (all g c) c.args.self.now c.args.place c.args.event.now.thread (book g c) (view g c)
+    books.ledger_place (before g c) (all g c) c.args.self.now c.args.place c.args.event.now.thread (book g c) (view g c)
     (within g c) c.index_mut-book.ensures.value
 
 is : (g : Given.Over) (c : goal.After-keep_where g)
-    → kept_at (now g c) c.args.place c.args.event.now.thread ≡ kept_of (after g c) (new g c)
+    → ledger_at (now g c) c.args.place c.args.event.now.thread ≡ ledger_of (after g c) (new g c)
 is g c =
-    books.kept_place (after g c) (set (all g c) c.args.place (new g c)) (now g c) c.args.place c.args.event.now.thread
+    books.ledger_place (after g c) (set (all g c) c.args.place (new g c)) (now g c) c.args.place c.args.event.now.thread
     (new g c) refl (books.now_within (all g c) c.args.place (new g c) (within g c))
     (books.now_at (all g c) c.args.place (new g c) (within g c))
 
@@ -94,9 +94,9 @@ same_thread g c =
 
 -- ---- what is remembered
 
-own_kept : (g : Given.Over) (c : goal.After-keep_where g) → IsUpdated c.args.self.now (now g c) c.args.event.now.thread
-    c.args.place (kept_of (after g c) (new g c))
-own_kept g c =
+ledger_is_new : (g : Given.Over) (c : goal.After-keep_where g) → IsUpdated c.args.self.now (now g c) c.args.event.now.thread
+    c.args.place (ledger_of (after g c) (new g c))
+ledger_is_new g c =
     books.updated (before g c) (after g c) c.self.inside.threads.keys (all g c) c.self.inside.entered c.args.place
     (book g c) (new g c) c.self.invariant.0 (within g c) c.note-noted.ensures.kept (others g c) c.args.self.now
     (now g c) c.args.event.now.thread c.requires.at (view g c) refl (same_thread g c)
@@ -112,36 +112,36 @@ plain_ready : (g : Given.Over) (c : goal.After-keep_where g) → c.is_plain-plai
 plain_ready g c plain =
     let syms = c.args.syms.now in
     let event = c.args.event.now in
-    let here = recordings.kept_there c.args.self.now event.thread c.args.place c.requires.at ∙ was g c in
+    let here = recordings.ledger_there c.args.self.now event.thread c.args.place c.requires.at ∙ was g c in
     let top =
-    subst (λ (k : Kept). top_of (stack k.account.frames) ≡ Some (place_of syms event.done.pc).func) (was g c)
+    subst (λ (k : Ledger). top_of (stack k.account.frames) ≡ Some (place_of syms event.done.pc).func) (was g c)
     c.requires.can.top in
-    let none : count_pushed (pushed syms event (frames (before g c) (book g c).head)) ≡ 0
+    let none : count_pushed (pushed_activation syms event (frames (before g c) (book g c).head)) ≡ 0
     = ap count_pushed (none_pushed syms event (frames (before g c) (book g c).head)
     (c.is_plain-plain.ensures.stays plain (stack (frames (before g c) (book g c).head)) top)) in
     let same = same_book g c in
     let line : has_line (place_of syms event.done.pc) (book g c).rows.lines ≡ true
     = subst (λ (d : Book). has_line (place_of syms event.done.pc) d.rows.lines ≡ true) same
     (c.is_plain-plain.ensures.known plain) in
-    recordings.ready_kept c.args.self.now (now g c) event.thread c.args.place (kept_of (after g c) (new g c))
-    (own_kept g c)
+    recordings.ready_kept c.args.self.now (now g c) event.thread c.args.place (ledger_of (after g c) (new g c))
+    (ledger_is_new g c)
     (omega (arith, c.note-noted.ensures.room, none, ap (λ (r : Recording). r.spare) c.self.view_is))
     (omega (
       arith,
       recordings.known_room (has_line (place_of syms event.done.pc) (book g c).rows.lines) (new g c).rows.line_room
           (book g c).rows.line_room line c.note-noted.ensures.line_room,
-      ap (λ (k : Kept). k.line_room) here,
+      ap (λ (k : Ledger). k.line_room) here,
     ))
-    (omega (arith, c.note-noted.ensures.arc_room, none, ap (λ (k : Kept). k.arc_room) here))
+    (omega (arith, c.note-noted.ensures.arc_room, none, ap (λ (k : Ledger). k.arc_room) here))
 
 remembered : (g : Given.Over) (c : goal.After-keep_where g) → IsRemembered (now g c) c.keep_where.new.ready
 remembered g c =
     remembered_after c.args.self.now (now g c) c.is_plain-plain.result c.self.inside.ready c.keep_where.new.ready
     c.keep_where.ensures
     (recordings.places_kept c.args.self.now (now g c) c.args.event.now.thread c.args.place
-    (kept_of (after g c) (new g c)) (own_kept g c))
+    (ledger_of (after g c) (new g c)) (ledger_is_new g c))
     (recordings.knows_kept c.args.self.now (now g c) c.args.event.now.thread c.args.place
-    (kept_of (after g c) (new g c)) (own_kept g c))
+    (ledger_of (after g c) (new g c)) (ledger_is_new g c))
     (plain_ready g c)
     (subst (λ (r : Recording). IsRemembered r c.self.inside.ready) c.self.view_is c.self.invariant.1)
 
@@ -152,7 +152,7 @@ marked g c =
     let t = c.args.event.now.thread in
     marked_after c.args.self.now (now g c) c.self.inside.active.words.items c.mark_other.new.active.words.items
     (subst (λ (r : Recording). AreMarked r c.self.inside.active.words.items) c.self.view_is c.self.invariant.2)
-    t (recordings.others_kept c.args.self.now (now g c) t c.args.place (kept_of (after g c) (new g c)) (own_kept g c))
+    t (recordings.others_kept c.args.self.now (now g c) t c.args.place (ledger_of (after g c) (new g c)) (ledger_is_new g c))
     c.mark_other.ensures.others c.mark_other.ensures.own
 
 -- what is remembered stays marked
@@ -204,38 +204,38 @@ pub returns-clause-threads : goal.returns-clause-threads
 returns-clause-threads g c =
     books.replaced_view (before g c) (after g c) c.self.inside.threads.keys (all g c) c.self.inside.entered c.args.place
     (book g c) (new g c) c.self.invariant.0 (within g c) c.note-noted.ensures.kept (others g c)
-    ∙ ap (λ (ks : List Kept). set ks c.args.place (kept_of (after g c) (new g c))) (sym (view g c))
-    ∙ ap (λ (k : Kept). set c.args.self.now.threads c.args.place k) (sym (is g c))
+    ∙ ap (λ (ks : List Ledger). set ks c.args.place (ledger_of (after g c) (new g c))) (sym (view g c))
+    ∙ ap (λ (k : Ledger). set c.args.self.now.threads c.args.place k) (sym (is g c))
 
 pub returns-clause-account : goal.returns-clause-account
 returns-clause-account g c =
-    ap (λ (k : Kept). k.account) (is g c) ∙ c.note-noted.ensures.account
-    ∙ ap (λ (k : Kept). noted c.args.syms.now c.args.event.now (cost g c) k.account) (sym (was g c))
+    ap (λ (k : Ledger). k.account) (is g c) ∙ c.note-noted.ensures.account
+    ∙ ap (λ (k : Ledger). account_after_note c.args.syms.now c.args.event.now (cost g c) k.account) (sym (was g c))
 
 pub returns-clause-adds : goal.returns-clause-adds
 returns-clause-adds g c =
-    subst (λ (k : Kept). Adds c.args.syms.now c.args.event.now (cost g c) k.account
-    (kept_at (now g c) c.args.place c.args.event.now.thread).account) (sym (was g c))
-    (subst (λ (k : Kept). Adds c.args.syms.now c.args.event.now (cost g c)
+    subst (λ (k : Ledger). Adds c.args.syms.now c.args.event.now (cost g c) k.account
+    (ledger_at (now g c) c.args.place c.args.event.now.thread).account) (sym (was g c))
+    (subst (λ (k : Ledger). Adds c.args.syms.now c.args.event.now (cost g c)
     (account_in (before g c) (book g c)) k.account) (sym (is g c)) c.note-noted.ensures.adds)
 
 pub returns-clause-line_room : goal.returns-clause-line_room
 returns-clause-line_room g c =
-    ap (λ (k : Kept). k.line_room
+    ap (λ (k : Ledger). k.line_room
     + (if has_line (place_of c.args.syms.now c.args.event.now.done.pc)
-    (kept_at c.args.self.now c.args.place c.args.event.now.thread).account.lines then 0 else 1)) (is g c)
-    ∙ ap (λ (k : Kept). (new g c).rows.line_room
+    (ledger_at c.args.self.now c.args.place c.args.event.now.thread).account.lines then 0 else 1)) (is g c)
+    ∙ ap (λ (k : Ledger). (new g c).rows.line_room
     + (if has_line (place_of c.args.syms.now c.args.event.now.done.pc) k.account.lines then 0 else 1)) (was g c)
-    ∙ c.note-noted.ensures.line_room ∙ ap (λ (k : Kept). k.line_room) (sym (was g c))
+    ∙ c.note-noted.ensures.line_room ∙ ap (λ (k : Ledger). k.line_room) (sym (was g c))
 
 pub returns-clause-arc_room : goal.returns-clause-arc_room
 returns-clause-arc_room g c =
     omega (
       arith,
       c.note-noted.ensures.arc_room,
-      ap (λ (k : Kept). k.arc_room) (is g c),
-      ap (λ (k : Kept). k.arc_room) (was g c),
-      ap (λ (k : Kept). count_pushed (pushed c.args.syms.now c.args.event.now k.account.frames)) (was g c),
+      ap (λ (k : Ledger). k.arc_room) (is g c),
+      ap (λ (k : Ledger). k.arc_room) (was g c),
+      ap (λ (k : Ledger). count_pushed (pushed_activation c.args.syms.now c.args.event.now k.account.frames)) (was g c),
     )
 
 pub returns-clause-shallow : goal.returns-clause-shallow
@@ -251,5 +251,5 @@ returns-clause-shallow g c =
       count g c,
       deep,
       c.requires.few,
-      ap (λ (k : Kept). length k.account.frames) (was g c),
+      ap (λ (k : Ledger). length k.account.frames) (was g c),
     )

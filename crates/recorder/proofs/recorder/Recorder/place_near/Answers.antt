@@ -2,8 +2,8 @@ use Rattle.std.proofs.Common.{◌≡◌, ◌==◌, ap, sym, ◌∙◌, List, pos
 use Rattle.std.proofs.Common.{◌+◌, ◌%◌, subst, true}
 use Rattle.std.specs.List.{list_any}
 use Rattle.event_costs.specs.declared.numbers.ThreadNo.{ThreadNo}
-use Rattle.recorder.specs.Accounts.{is_of, Recording}
-use Rattle.recorder.specs.inner.Books.{kept_of}
+use Rattle.recorder.specs.Accounts.{is_ledger_of, Recording}
+use Rattle.recorder.specs.inner.Books.{ledger_of}
 use Rattle.recorder.specs.declared.book.Book.{Book}
 use Rattle.recorder.proofs.RecordingLemmas.{any-map, own_place, own_there, position-map, same_thread, stands_there}
 use Rattle.std.proofs.lemmas.Bool.Decides.{nat_tests}
@@ -23,8 +23,8 @@ returns-clause-place c =
     sym (sym (own_place c.args.thread c.self.inside.threads.keys near there c.as_slice.ensures.unique)
     ∙ ap (λ (ts : List ThreadNo). position (λ (u : ThreadNo). c.args.thread.0 == u.0) ts) c.self.invariant.0.threads
     ∙ position-map (λ (u : ThreadNo). c.args.thread.0 == u.0) (λ (b : Book). b.thread) c.self.inside.books.items
-    ∙ sym (position-map (is_of c.args.thread) (kept_of c.self.inside.arena.slots) c.self.inside.books.items)
-    ∙ ap (λ (r : Recording). position (is_of c.args.thread) r.threads) c.self.view_is)
+    ∙ sym (position-map (is_ledger_of c.args.thread) (ledger_of c.self.inside.arena.slots) c.self.inside.books.items)
+    ∙ ap (λ (r : Recording). position (is_ledger_of c.args.thread) r.threads) c.self.view_is)
 
 pub returns-clause-known : goal.returns-clause-known
 returns-clause-known c =
@@ -39,5 +39,5 @@ returns-clause-known c =
     sym (sym (own_there c.args.thread c.self.inside.threads.keys near there)
     ∙ ap (λ (ts : List ThreadNo). list_any (λ (u : ThreadNo). c.args.thread.0 == u.0) ts) c.self.invariant.0.threads
     ∙ any-map (λ (u : ThreadNo). c.args.thread.0 == u.0) (λ (b : Book). b.thread) c.self.inside.books.items
-    ∙ sym (any-map (is_of c.args.thread) (kept_of c.self.inside.arena.slots) c.self.inside.books.items)
-    ∙ ap (λ (r : Recording). list_any (is_of c.args.thread) r.threads) c.self.view_is)
+    ∙ sym (any-map (is_ledger_of c.args.thread) (ledger_of c.self.inside.arena.slots) c.self.inside.books.items)
+    ∙ ap (λ (r : Recording). list_any (is_ledger_of c.args.thread) r.threads) c.self.view_is)

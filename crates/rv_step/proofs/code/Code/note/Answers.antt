@@ -1,6 +1,6 @@
 use Rattle.std.proofs.Common.{arith}
 use Rattle.std.specs.Prelude.{is_ok}
-use Rattle.rv_step.specs.Code.{kept}
+use Rattle.rv_step.specs.Code.{kept_instruction}
 use Rattle.rv_step.proofs.CodeLemmas.{noted-last, noted-push}
 use Rattle.rv_step.proofs.code.Code.note.Goals as goal
 
@@ -17,5 +17,5 @@ returns-clause-noted c =
     (c.push.ensures.succeeds (omega (arith, c.make_room.ensures.room, code.room)))
 
 pub returns-clause-fewer : goal.returns-clause-fewer
-unfolding kept
+unfolding kept_instruction
 returns-clause-fewer c = c.make_room.ensures.fewer

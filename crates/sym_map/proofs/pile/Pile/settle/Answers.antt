@@ -9,7 +9,7 @@ returns-then-top-end-clause-pile c = λ spans so.
     rw c.in_ok-push.ensures.items
     (settled_further spans _ _ _ _ _ pile (omega (arith, c.in_ok-extend.ensures.end))
     (c.in_ok-extend.ensures.settled spans pile.settled
-    (λ a le lt. seen_on_top spans _ _ _ _ a pile le (omega arith) ∙ sym c.seen.ensures)))
+    (λ a le lt. seen_on_top spans _ _ _ _ a pile le (omega arith) ∙ sym c.cover.ensures)))
 
 pub stack-preserved : goal.stack-preserved
 stack-preserved c = record {
@@ -19,7 +19,7 @@ stack-preserved c = record {
       settled_behind spans _ _ _ _ _ _ pile (omega (arith, c.in_ok-extend-2.ensures.end))
       (omega (arith, c.in_ok-extend-2.ensures.end))
       (c.in_ok-extend-2.ensures.settled spans pile.settled
-      (λ a le lt. seen_on_top spans _ _ _ _ a pile le lt ∙ sym c.seen-in-Some.ensures));
+      (λ a le lt. seen_on_top spans _ _ _ _ a pile le lt ∙ sym c.cover-in-Some.ensures));
 }
 
 pub returns-clause-pile : goal.returns-clause-pile

@@ -5,7 +5,7 @@ use Rattle.dwarf_line.specs.declared.row.Row.{Row}
 use Rattle.dwarf_line.specs.declared.row.Sequence.{Sequence}
 use Rattle.sym_map.specs.declared.range.Range.{Range}
 use Rattle.sym_map.specs.declared.range.Span.{Span}
-use Rattle.sym_map.specs.inner.Rows.{lined, piles}
+use Rattle.sym_map.specs.inner.Rows.{line_spans, piles}
 use Rattle.sym_map.specs.inner.Spans.{IsCutOf, IsMergeOf}
 use Rattle.sym_map.proofs.RowPiles.{lined_parts}
 use Rattle.sym_map.proofs.Spans.{cut_of_both}
@@ -17,7 +17,7 @@ returns-in_ok-below-in_default t c =
     let rows : List Row = c.args.self.now.rows.now.rows in
     let sequences : List Sequence = c.args.self.now.rows.now.sequences in
     let middle : ℕ = c.args.first + (c.args.last - c.args.first) / 2 in
-    let own : ℕ → ℕ → List Span = λ i j. lined ids (piles rows (slice_range sequences i j)) in
+    let own : ℕ → ℕ → List Span = λ i j. line_spans ids (piles rows (slice_range sequences i j)) in
     let above : List Range = c.in_ok-above-in_default.above.items in
     let below : List Range = c.in_ok-below-in_default.below.items in
     let order = c.requires.order in

@@ -4,7 +4,7 @@ use Rattle.std.proofs.lemmas.Option.{get_or_from_slice_get}
 use Rattle.dwarf_line.specs.declared.row.Row.{Row}
 use Rattle.dwarf_line.specs.declared.row.Sequence.{Sequence}
 use Rattle.sym_map.specs.inner.Piles.{IsPileOf}
-use Rattle.sym_map.specs.inner.Rows.{lined, pile, span_of}
+use Rattle.sym_map.specs.inner.Rows.{line_spans, pile, span_of}
 use Rattle.sym_map.proofs.RowPiles.{pile_up, range_none, rows_rise}
 use Rattle.sym_map.proofs.row_pile.Numbered.lay.Goals as goal
 
@@ -53,7 +53,7 @@ pub returns-clause-pile : goal.returns-clause-pile
 unfolding pile
 returns-clause-pile c = λ spans so.
     let end : c.rows.i ≡ c.args.sequence.last = omega (arith, c.requires.placed.0) in
-    subst (λ n. IsPileOf (lined c.args.self.now.ids.now (reverse (map (span_of c.args.sequence.end)
+    subst (λ n. IsPileOf (line_spans c.args.self.now.ids.now (reverse (map (span_of c.args.sequence.end)
     (slice_range c.args.self.now.rows.now.rows c.args.sequence.first n))) ++ spans)
     c.rows.laid.settled.ranges.items c.rows.laid.settled.end c.rows.laid.stack.items) end
     (c.rows.invariant.pile spans so)

@@ -3,13 +3,13 @@ use Rattle.event_costs.specs.Costs.{difference_of_costs, sum_of_costs}
 use Rattle.wait_report.specs.Keeping.{open_of, spot, sum_of}
 use Rattle.wait_report.specs.declared.books.Sum.{Sum}
 use Rattle.wait_report.specs.inner.Lookups.{same_number}
-use Rattle.wait_report.specs.inner.Room.{HasSpan, kept_of}
+use Rattle.wait_report.specs.inner.Room.{HasSpan, books_of}
 use Rattle.wait_report.proofs.RowLemmas.{at_none_cost, at_none_unwoken, only_some, open_cost, open_unwoken, row_is}
 use Rattle.wait_report.proofs.books.Books.row.Goals as goal
 
 pub add-requires : goal.add-requires
 add-requires c =
-    let k = kept_of c.args.self.now in
+    let k = books_of c.args.self.now in
     let s = c.args.spot in
     let held = c.in-Some.held in
     let some = only_some s.word (open_of s.thread k) held (sym c.open_at.ensures ∙ c.in-Some.is) in
@@ -24,7 +24,7 @@ add-requires c =
 
 pub returns-in_default : goal.returns-in_default
 returns-in_default c = λ xs stands.
-    let k = kept_of c.args.self.now in
+    let k = books_of c.args.self.now in
     let s = c.args.spot in
     let none = sym c.open_at.ensures ∙ c.in_default.is in
     row_is xs s c.sum_of-sum.result.waits false c.sum_of-sum.result.cost c.in_ok-wakers.wakers
@@ -35,7 +35,7 @@ returns-in_default c = λ xs stands.
 
 pub returns : goal.returns
 returns c = λ xs stands.
-    let k = kept_of c.args.self.now in
+    let k = books_of c.args.self.now in
     let s = c.args.spot in
     let held = c.in-Some.held in
     let some = only_some s.word (open_of s.thread k) held (sym c.open_at.ensures ∙ c.in-Some.is) in

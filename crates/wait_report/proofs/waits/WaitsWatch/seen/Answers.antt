@@ -1,6 +1,6 @@
 use Rattle.std.proofs.Common.{◌++◌, [], ◌∷◌, None, Some, ap}
 use Rattle.wait_report.specs.Standing.{step}
-use Rattle.wait_report.specs.inner.Room.{kept_of}
+use Rattle.wait_report.specs.inner.Room.{books_of}
 use Rattle.wait_report.proofs.FitLemmas.{begun_stands, can_add, can_begin, has_passed, passed_stands, sound}
 use Rattle.wait_report.proofs.RoomLemmas.{no_room, same_room, step_room}
 use Rattle.wait_report.proofs.waits.WaitsWatch.seen.Goals as goal
@@ -8,7 +8,7 @@ use Rattle.wait_report.proofs.waits.WaitsWatch.seen.Goals as goal
 pub add-requires : goal.add-requires
 add-requires c =
     can_add c.args.self.now c.args.event.now c.args.cost.now c.args.wait c.args.woken.now c.args._syms.now c.requires
-    (kept_of c.self.inside.books) (ap (λ w. w.kept) c.self.view_is)
+    (books_of c.self.inside.books) (ap (λ w. w.books) c.self.view_is)
 
 pub wake_all-requires-clause-room : goal.wake_all-requires-clause-room
 wake_all-requires-clause-room c =
@@ -18,42 +18,42 @@ wake_all-requires-clause-room c =
 pub wake_all-requires-clause-passed : goal.wake_all-requires-clause-passed
 wake_all-requires-clause-passed c =
     has_passed c.args.self.now c.args.event.now c.args.cost.now c.args.wait c.args.woken.now c.args._syms.now c.requires
-    (kept_of c.self.inside.books) (ap (λ w. w.kept) c.self.view_is)
-    (record (kept_of c.self.inside.books) { total = c.add.new.self })
-    (ap (λ t. record (kept_of c.self.inside.books) { total = t }) c.add.ensures.sum)
+    (books_of c.self.inside.books) (ap (λ w. w.books) c.self.view_is)
+    (record (books_of c.self.inside.books) { total = c.add.new.self })
+    (ap (λ t. record (books_of c.self.inside.books) { total = t }) c.add.ensures.sum)
 
 pub begin-requires-clause-fits : goal.begin-requires-clause-fits
 begin-requires-clause-fits c =
     let has = has_passed c.args.self.now c.args.event.now c.args.cost.now c.args.wait c.args.woken.now c.args._syms.now
-    c.requires (kept_of c.self.inside.books) (ap (λ w. w.kept) c.self.view_is)
-    (record (kept_of c.self.inside.books) { total = c.add.new.self })
-    (ap (λ t. record (kept_of c.self.inside.books) { total = t }) c.add.ensures.sum) in
-    can_begin (kept_of c.wake_all.new.books) (has.earlier ++ step has.seen None c.args.woken.now ∷ [])
-    (passed_stands (record (kept_of c.self.inside.books) { total = c.add.new.self }) (kept_of c.wake_all.new.books)
+    c.requires (books_of c.self.inside.books) (ap (λ w. w.books) c.self.view_is)
+    (record (books_of c.self.inside.books) { total = c.add.new.self })
+    (ap (λ t. record (books_of c.self.inside.books) { total = t }) c.add.ensures.sum) in
+    can_begin (books_of c.wake_all.new.books) (has.earlier ++ step has.on_stack None c.args.woken.now ∷ [])
+    (passed_stands (record (books_of c.self.inside.books) { total = c.add.new.self }) (books_of c.wake_all.new.books)
     c.args.event.now.thread c.args.woken.now has c.wake_all.ensures.kept)
     c.args.event.now.thread c.in-Some.word
 
 pub invariant_of-self : goal.invariant_of-self
 invariant_of-self c =
-    let kept = record (kept_of c.self.inside.books) { total = c.add.new.self } in
+    let kept = record (books_of c.self.inside.books) { total = c.add.new.self } in
     let has = has_passed c.args.self.now c.args.event.now c.args.cost.now c.args.wait c.args.woken.now c.args._syms.now
-    c.requires (kept_of c.self.inside.books) (ap (λ w. w.kept) c.self.view_is) kept
-    (ap (λ t. record (kept_of c.self.inside.books) { total = t }) c.add.ensures.sum) in (
-      sound kept (has.earlier ++ step has.seen None [] ∷ []) has.stands,
+    c.requires (books_of c.self.inside.books) (ap (λ w. w.books) c.self.view_is) kept
+    (ap (λ t. record (books_of c.self.inside.books) { total = t }) c.add.ensures.sum) in (
+      sound kept (has.earlier ++ step has.on_stack None [] ∷ []) has.stands,
       same_room c.self.inside.room c.self.inside.books c.add.new.self c.self.invariant.1,
     )
 
 pub invariant_of-self-in-Some : goal.invariant_of-self-in-Some
 invariant_of-self-in-Some c =
     let has = has_passed c.args.self.now c.args.event.now c.args.cost.now c.args.wait c.args.woken.now c.args._syms.now
-    c.requires (kept_of c.self.inside.books) (ap (λ w. w.kept) c.self.view_is)
-    (record (kept_of c.self.inside.books) { total = c.add.new.self })
-    (ap (λ t. record (kept_of c.self.inside.books) { total = t }) c.add.ensures.sum) in
-    let stands = begun_stands (record (kept_of c.self.inside.books) { total = c.add.new.self })
-    (kept_of c.wake_all.new.books) (kept_of c.begin.new.self) c.args.event.now.thread c.args.woken.now
+    c.requires (books_of c.self.inside.books) (ap (λ w. w.books) c.self.view_is)
+    (record (books_of c.self.inside.books) { total = c.add.new.self })
+    (ap (λ t. record (books_of c.self.inside.books) { total = t }) c.add.ensures.sum) in
+    let stands = begun_stands (record (books_of c.self.inside.books) { total = c.add.new.self })
+    (books_of c.wake_all.new.books) (books_of c.begin.new.self) c.args.event.now.thread c.args.woken.now
     c.in-Some.word has
     c.wake_all.ensures.kept c.begin.ensures in (
-      sound (kept_of c.begin.new.self) (has.earlier ++ step has.seen (Some c.in-Some.word) c.args.woken.now ∷ [])
+      sound (books_of c.begin.new.self) (has.earlier ++ step has.on_stack (Some c.in-Some.word) c.args.woken.now ∷ [])
           stands,
       no_room c.begin.new.self,
     )
@@ -61,11 +61,11 @@ invariant_of-self-in-Some c =
 pub invariant_of-self-in_default : goal.invariant_of-self-in_default
 invariant_of-self-in_default c =
     let has = has_passed c.args.self.now c.args.event.now c.args.cost.now c.args.wait c.args.woken.now c.args._syms.now
-    c.requires (kept_of c.self.inside.books) (ap (λ w. w.kept) c.self.view_is)
-    (record (kept_of c.self.inside.books) { total = c.add.new.self })
-    (ap (λ t. record (kept_of c.self.inside.books) { total = t }) c.add.ensures.sum) in
-    let stands = passed_stands (record (kept_of c.self.inside.books) { total = c.add.new.self })
-    (kept_of c.wake_all.new.books) c.args.event.now.thread c.args.woken.now has c.wake_all.ensures.kept in (
-      sound (kept_of c.wake_all.new.books) (has.earlier ++ step has.seen None c.args.woken.now ∷ []) stands,
+    c.requires (books_of c.self.inside.books) (ap (λ w. w.books) c.self.view_is)
+    (record (books_of c.self.inside.books) { total = c.add.new.self })
+    (ap (λ t. record (books_of c.self.inside.books) { total = t }) c.add.ensures.sum) in
+    let stands = passed_stands (record (books_of c.self.inside.books) { total = c.add.new.self })
+    (books_of c.wake_all.new.books) c.args.event.now.thread c.args.woken.now has c.wake_all.ensures.kept in (
+      sound (books_of c.wake_all.new.books) (has.earlier ++ step has.on_stack None c.args.woken.now ∷ []) stands,
       no_room c.wake_all.new.books,
     )

@@ -1,4 +1,0 @@
-use Rattle.profile_run.proofs.running.halted_step.Given as goal
-
-abbrev pub ghost-finish_step : goal.ghost-finish_step
-ghost-finish_step g a = g.job
