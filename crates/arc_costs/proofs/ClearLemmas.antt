@@ -1,39 +1,13 @@
--- Amounts that are made nothing one after another.
-use Rattle.std.proofs.Common.{◌≡◌, ◌+◌, ℕ, zero, suc, Bool, List, [], ◌∷◌, length, Option, Some, None, IfSome, is_some}
-use Rattle.std.proofs.Common.{refl, sym, ap, subst, ◌∙◌, arith, if◌then◌else◌}
+-- Amounts that are made nothing.
+use Rattle.std.proofs.Common.{◌≡◌, ℕ, Bool, List, [], ◌∷◌, Option, Some, None, IfSome, is_some}
+use Rattle.std.proofs.Common.{refl, sym, ap, subst, ◌∙◌, if◌then◌else◌}
 use Rattle.std.specs.Map.{lookup}
 use Rattle.std.proofs.lemmas.List.{append-nil, map-append}
-use Rattle.indexmap.specs.IndexMap.{set_value_at}
 use Rattle.arc_costs.specs.Amounts.{clear_amounts}
 use Rattle.arc_costs.specs.inner.Shape.{all_rows, AllWhole, IsSound}
 use Rattle.arc_costs.proofs.EntryLemmas.{IsAbsent, absent_lookup, lookup_absent}
 
 module _ {K A : Type 0} (nothing : A) where
-  -- the first entries have nothing
-  abbrev pub cleared_first : ℕ → List (K × A) → List (K × A)
-  cleared_first zero es = es
-  cleared_first (suc i) [] = []
-  cleared_first (suc i) (e ∷ es) = (e.0, nothing) ∷ cleared_first i es
-
-  pub length-cleared_first : (i : ℕ) (es : List (K × A)) → length (cleared_first i es) ≡ length es
-  length-cleared_first zero es = refl
-  length-cleared_first (suc i) [] = refl
-  length-cleared_first (suc i) (e ∷ es) = ap suc (length-cleared_first i es)
-
-  cleared_more : (i : ℕ) (es : List (K × A)) → set_value_at (cleared_first i es) i nothing ≡ cleared_first (suc i) es
-  cleared_more zero [] = refl
-  cleared_more zero (e ∷ es) = refl
-  cleared_more (suc i) [] = refl
-  cleared_more (suc i) (e ∷ es) = ap (λ fs. (e.0, nothing) ∷ fs) (cleared_more i es)
-
-  pub cleared_next : (i : ℕ) (es : List (K × A))
-      → set_value_at (cleared_first i es) i nothing ≡ cleared_first (i + 1) es
-  cleared_next i es = let next : suc i ≡ i + 1 = omega arith in cleared_more i es ∙ ap (λ n. cleared_first n es) next
-
-  pub cleared_all : (es : List (K × A)) → cleared_first (length es) es ≡ clear_amounts nothing es
-  cleared_all [] = refl
-  cleared_all (e ∷ es) = ap (λ fs. (e.0, nothing) ∷ fs) (cleared_all es)
-
   -- the newest row, with nothing
   abbrev pub cleared_slot : Option (K × A) → Option (K × A)
   cleared_slot None = None

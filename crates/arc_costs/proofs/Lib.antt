@@ -6,6 +6,7 @@ pub mod KindLemmas
 pub mod LineLemmas
 pub mod RiseLemmas
 pub mod RowLemmas
+pub mod SomeLemmas
 pub mod SortLemmas
 pub mod TableLemmas
 pub mod TreeLemmas

@@ -1,6 +1,6 @@
 -- Rows with keys that differ, and what sorting makes of them.
 use Rattle.std.proofs.Common.{◌≡◌, ◌+◌, Bool, true, false, cond, ◌||◌, List, [], ◌∷◌, filter, get_or, Option, Some}
-use Rattle.std.proofs.Common.{None, refl, sym, ap, subst, ◌∙◌, arith, true≢false}
+use Rattle.std.proofs.Common.{None, refl, sym, ap, subst, ◌∙◌, arith, true≢false, ◌++◌, IsPermutation}
 use Rattle.std.specs.Cmp.{IsEquivalence, IsTotalOrder}
 use Rattle.std.specs.List.{AllByRecursion, IsDistinct, list_any}
 use Rattle.std.specs.List.Sorted.{IsSortedByKey, IsStrictlySortedBy}
@@ -9,6 +9,8 @@ use Rattle.std.specs.Ordering.{is_eq, is_lt, ordering_reverse}
 use Rattle.std.specs.declared.cmp.Ordering.{Ordering}
 use Rattle.std.specs.declared.cmp.Ordering.TheVariants.{Less, Equal, Greater}
 use Rattle.std.proofs.lemmas.List.{append-nil, get_or-map, length-map, map-append}
+use Rattle.std.proofs.lemmas.List.Elements.{filter-append}
+use Rattle.std.proofs.lemmas.List.Sorted.{IsPermutation-append_left}
 use Rattle.std.proofs.lemmas.Map.Keys.{IsDistinct-cons, IsDistinct-head, IsDistinct-push, IsDistinct-tail}
 use Rattle.std.proofs.lemmas.Map.Keys.{apart_from_distinct, sorted_from_all_adjacent}
 use Rattle.arc_costs.specs.inner.Shape.{IsSound, all_rows}
@@ -62,6 +64,20 @@ module _ {K A : Type 0} (same : K → K → Bool) where
     distinct_kept (e ∷ es) distinct =
         distinct_more (p e) e es refl (apart_kept e.0 es (IsDistinct-head same e.0 (keys_of es) distinct))
         (distinct_kept es (IsDistinct-tail same e.0 (keys_of es) distinct))
+
+-- of rows of which some are listed, those of them with one row more
+module _ {X : Type 0} (p : X → Bool) (known listed : List X) (x : X) (are : IsPermutation (filter p known) listed) where
+  pub listed_more : p x ≡ true → IsPermutation (filter p (known ++ x ∷ [])) (listed ++ x ∷ [])
+  listed_more is =
+      subst (λ xs. IsPermutation xs (listed ++ x ∷ []))
+      (sym (filter-append p known (x ∷ []) ∙ ap (λ b. filter p known ++ cond b (x ∷ []) []) is))
+      (IsPermutation-append_left (x ∷ []) (filter p known) listed are)
+
+  pub listed_still : p x ≡ false → IsPermutation (filter p (known ++ x ∷ [])) listed
+  listed_still is =
+      subst (λ xs. IsPermutation xs listed)
+      (sym (filter-append p known (x ∷ []) ∙ ap (λ b. filter p known ++ cond b (x ∷ []) []) is
+      ∙ append-nil (filter p known))) are
 
 below : (o p : Ordering) → o ≡ ordering_reverse p → is_lt p ≡ false → is_eq o ≡ false → o ≡ Less
 below o Less flip not_less apart = absurd (true≢false not_less)

@@ -1,9 +1,10 @@
 //! What a table sums up.
 
-ghost use Rattle.std.specs.Prelude.{◌≡◌, Bool, refl};
+ghost use Rattle.std.specs.Prelude.{◌≡◌, Bool, false, refl, true};
 ghost use Rattle.arc_costs.specs.Totals.{Fits, is_some_cost, is_some_total, nothing as no_total, sum_of_totals};
 ghost use Rattle.arc_costs.specs.inner.Sums.{CanAddCost, CanAddTotal, IsWholeTotal};
-ghost use Rattle.arc_costs.specs.inner.Ties.{no_cost_plus, nothing_plus as no_total_plus, whole_sum};
+ghost use Rattle.arc_costs.specs.inner.Ties.{no_cost_plus, no_numbers, no_total_numbers, nothing_plus as no_total_plus};
+ghost use Rattle.arc_costs.specs.inner.Ties.{some_sum, some_total, whole_sum};
 ghost use Rattle.event_costs.specs.Costs.{IsWhole, no_cost, sum_of_costs};
 
 use crate::total::Total;
@@ -34,6 +35,16 @@ pub trait Amount: Copy {
     /// Whether a number isn't 0.
     fn is_some(&self) -> bool
         ensures { result ≡ is_some self.now };
+
+    /// Whether the number that nearly every addition raises isn't 0.
+    fn is_begun(&self) -> bool
+        ensures { result ≡ true → is_some self.now ≡ true };
+
+    ghost nothing_is_none: { is_some nothing ≡ false };
+
+    ghost none_is_nothing: { (a : Self) → is_whole a → is_some a ≡ false → a ≡ nothing };
+
+    ghost plus_is_some: { (a b : Self) → is_whole a → is_whole b → is_some a ≡ true → is_some (plus a b) ≡ true };
 
     ghost nothing_whole: { is_whole nothing };
 
@@ -97,6 +108,12 @@ impl Amount for Cost {
 
     ghost is_whole = { IsWhole };
 
+    ghost nothing_is_none = { refl };
+
+    ghost none_is_nothing = { no_numbers };
+
+    ghost plus_is_some = { some_sum };
+
     ghost nothing_whole = { refl };
 
     ghost plus_whole = { whole_sum };
@@ -116,6 +133,11 @@ impl Amount for Cost {
     fn is_some(&self) -> bool {
         self.numbers().iter().any(|n| *n != 0)
     }
+
+    #[inline(always)]
+    fn is_begun(&self) -> bool {
+        self.n[0] != 0
+    }
 }
 
 impl Amount for Total {
@@ -128,6 +150,12 @@ impl Amount for Total {
     ghost can_add = { CanAddTotal };
 
     ghost is_whole = { IsWholeTotal };
+
+    ghost nothing_is_none = { refl };
+
+    ghost none_is_nothing = { no_total_numbers };
+
+    ghost plus_is_some = { some_total };
 
     ghost nothing_whole = { refl };
 
@@ -147,5 +175,10 @@ impl Amount for Total {
 
     fn is_some(&self) -> bool {
         self.calls != 0 || self.cost.is_some()
+    }
+
+    #[inline(always)]
+    fn is_begun(&self) -> bool {
+        self.calls != 0 || self.cost.is_begun()
     }
 }

@@ -1,6 +1,6 @@
 //! The digits by which keys are found.
 
-ghost use Rattle.std.specs.Prelude.{◌≡◌, ◌<◌, ◌+◌, ◌*◌, ◌^◌, ◌%◌, ℕ, Bool, true};
+ghost use Rattle.std.specs.Prelude.{◌≡◌, ◌<◌, ◌+◌, ◌*◌, ◌/◌, ◌^◌, ◌%◌, ℕ, Bool, true};
 ghost use Rattle.arc_costs.specs.Digits.{arc_digit, digit_of, place_number, spread};
 ghost use Rattle.arc_costs.specs.inner.Exact.{few_arc_digits, few_digits, same_arcs, same_number, same_places};
 
@@ -19,6 +19,14 @@ pub trait Digits: Eq + Copy {
     /// The digit at a place.
     fn digit(&self, place: usize) -> usize
         ensures { result ≡ digit self.now place };
+
+    /// Whether the other one is the same key, as `==` says.
+    #[inline(always)]
+    fn is(&self, other: &Self) -> bool
+        ensures { result ≡ Self.eq self.now other.now }
+    {
+        *self == *other
+    }
 
     ghost few: { (key : Self) (place : ℕ) → digit key place < 4 };
 
@@ -56,6 +64,16 @@ impl Digits for u64 {
     }
 }
 
+/// The file and the line of a place as one number.
+#[inline(always)]
+fn source_of<N: Number>(place: &Place<N>) -> u64
+    ensures both { result ≡ place.now.file.0 + place.now.line * 2 ^ 32 }
+    ensures file { result % 2 ^ 32 ≡ place.now.file.0 }
+    ensures line { result / 2 ^ 32 ≡ place.now.line }
+{
+    u64::from(place.file.0) + (u64::from(place.line) << 32)
+}
+
 impl<N: Number> Digits for Place<N> {
     ghost digit = { λ place n. digit_of (spread (place_number place)) n };
 
@@ -65,9 +83,14 @@ impl<N: Number> Digits for Place<N> {
 
     #[inline(always)]
     fn digit(&self, place: usize) -> usize {
-        let source = u64::from(self.file.0) + (u64::from(self.line) << 32);
-        let number = u128::from(self.func.wide().0) + (u128::from(source) << 64);
+        let number = u128::from(self.func.wide().0) + (u128::from(source_of(self)) << 64);
         digit_of(spread(number), place)
+    }
+
+    /// The file and the line are compared as one number.
+    #[inline(always)]
+    fn is(&self, other: &Self) -> bool {
+        self.func.wide().0 == other.func.wide().0 && source_of(self) == source_of(other)
     }
 }
 

@@ -106,6 +106,15 @@ impl<K: Digits, A: Copy> KeyTree<K, A> {
         self.rows.len()
     }
 
+    /// The value of a row.
+    #[inline(always)]
+    pub fn value(&self, index: usize) -> &A
+        requires { index < length self.now.entries }
+        ensures { slice_get (values_of self.now.entries) index ≡ Some result.now }
+    {
+        &self.rows[index].1
+    }
+
     pub fn allocator(&self) -> Global {
         *self.rows.allocator()
     }
@@ -129,7 +138,7 @@ impl<K: Digits, A: Copy> KeyTree<K, A> {
         ensures { result ≡ true → position (K.eq key.now) (keys_of self.now.entries) ≡ Some index }
     {
         match self.rows.get(index) {
-            Some(row) => *key == row.0,
+            Some(row) => key.is(&row.0),
             None => false,
         }
     }

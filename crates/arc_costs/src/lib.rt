@@ -2,6 +2,7 @@
 #![tactic(auto)]
 
 mod amount;
+mod amount_tree;
 mod digits;
 mod key_tree;
 mod listing;

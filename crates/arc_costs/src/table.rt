@@ -10,8 +10,8 @@ ghost use Rattle.arc_costs.specs.Amounts.{add_amount, amount_at, clear_amounts, 
 ghost use Rattle.arc_costs.specs.inner.Shape.{AllWhole};
 
 use crate::amount::{Amount, Part};
+use crate::amount_tree::AmountTree;
 use crate::digits::Digits;
-use crate::key_tree::KeyTree;
 use crate::sorting::sorted_by_key;
 use byte_text::OutOfMemory;
 use std::alloc::Global;
@@ -21,7 +21,7 @@ use std::marker::Model;
 /// isn't in the map yet can be added without memory.
 #[derive(Drop)]
 pub struct Table<K: Digits, A: Amount> {
-    known: KeyTree<K, A>,
+    known: AmountTree<K, A>,
     newest: Option<(K, A)>,
 }
 
@@ -43,7 +43,7 @@ impl<K: Digits, A: Amount> Table<K, A> {
         ensures room { result.room ≡ 1 }
     {
         Table {
-            known: KeyTree::new(alloc),
+            known: AmountTree::new(alloc),
             newest: None,
         }
     }
@@ -157,29 +157,23 @@ impl<K: Digits, A: Amount> Table<K, A> {
         ensures rows { self.new.rows ≡ clear_amounts A.nothing self.old.rows }
         ensures room { self.new.room ≡ self.old.room }
     {
-        'rows: for index in 0..self.known.len() {
-            self.known.set(index, A::zero());
-        }
+        self.known.clear();
         if let Some(row) = &mut self.newest {
             row.1 = A::zero();
         }
     }
 
-    /// The rows that aren't nothing, in order of first addition.
+    /// The rows that aren't nothing.
     fn list_rows(&self) -> Result<Vec<(K, A)>, OutOfMemory>
-        ensures rows { IfOk result (λ v. v.items ≡ filter (λ e. A.is_some e.1) self.now.rows) }
+        ensures rows { IfOk result (λ v. IsPermutation (filter (λ e. A.is_some e.1) self.now.rows) v.items) }
         ensures apart { IsDistinct K.eq (keys_of self.now.rows) }
         ensures whole { AllWhole A.is_whole self.now.rows }
     {
-        let mut rows = Vec::new(self.known.allocator());
-        'rows: for (key, amount) in self.known.rows() {
-            if amount.is_some() {
-                rows.push((*key, *amount))?;
-            }
-        }
-        if let Some((key, amount)) = self.newest
-            && amount.is_some()
-        {
+        let mut rows = self.known.list_rows()?;
+        let Some((key, amount)) = self.newest else {
+            return Ok(rows);
+        };
+        if amount.is_some() {
             rows.push((key, amount))?;
         }
         Ok(rows)

@@ -17,4 +17,4 @@ returns-in-Some g c =
     subst (λ v. position test (keys_of v.entries) ≡ Some c.args.index) c.self.view_is
     (place_at g.K.PartialEq.eq c.args.key.now rows c.args.index row.1
     (at_own_key g.K.PartialEq.eq c.args.key.now g.met.K.Eq.laws rows c.args.index row
-    (ap (λ es. slice_get es c.args.index) (sym c.deref.ensures.value) ∙ there) (sym c.eq.ensures ∙ same) c.self.invariant.0.apart))
+    (ap (λ es. slice_get es c.args.index) (sym c.deref.ensures.value) ∙ there) (sym c.is.ensures ∙ same) c.self.invariant.0.apart))
