@@ -44,10 +44,21 @@ map_flat : {X Y Z : Type 0} (f : Y → Z) (g : X → List Y) (h : X → List Z) 
 map_flat f g h same [] = refl
 map_flat f g h same (x ∷ xs) = map-append f (g x) (flat_map g xs) ∙ (λ i. same x i ++ map_flat f g h same xs i)
 
-each_flat : {X Y : Type 0} (P : Y → Type 0) (g : X → List Y) → ((x : X) → AllByRecursion P (g x)) → (xs : List X)
+pub each_flat : {X Y : Type 0} (P : Y → Type 0) (g : X → List Y) → ((x : X) → AllByRecursion P (g x)) → (xs : List X)
     → AllByRecursion P (flat_map g xs)
 each_flat P g all [] = tt
 each_flat P g all (x ∷ xs) = all_append P (g x) (flat_map g xs) (all x) (each_flat P g all xs)
+
+-- the steps of segments; those of a run's segments are its steps
+abbrev pub flat : List Segment → List Step
+flat segments = flat_map (λ (s : Segment). s.0) segments
+
+pub whole_run : (m : SymbolMap) (asked : DumpPoints) (steps : List Step) → flat (segments_of m asked steps) ≡ steps
+whole_run m asked steps =
+    let closed = (cuts m asked steps).closed in
+    let recent = (cuts m asked steps).recent in
+    flat_map-append (λ (s : Segment). s.0) closed ((recent, Termination) ∷ [])
+    ∙ ap (λ xs. flat_map (λ (s : Segment). s.0) closed ++ xs) (append-nil recent) ∙ cuts_together m asked steps
 
 -- files are apart by their names
 pub apart_as : (xs ys : List Named) → map (λ (f : Named). f.0) xs ≡ map (λ (f : Named). f.0) ys
@@ -214,9 +225,6 @@ module _ (rows_of : List EventOnStack → Listed) (head : PartHead) (m : SymbolM
 
   -- ---- what is so of each
 
-  abbrev flat : List Segment → List Step
-  flat segments = flat_map (λ (s : Segment). s.0) segments
-
   -- what is so of the rows by address of each thread's events in a piece of the run
   pub each_part : (P : AddrPart → Type 0) (steps : List Step)
       → ((number : ℕ) (trigger : Trigger) (thread : ℕ) (segment : List Step) (piece : IsPiece steps segment)
@@ -225,15 +233,8 @@ module _ (rows_of : List EventOnStack → Listed) (head : PartHead) (m : SymbolM
         rows = addr_rows_in m thread piece.before segment;
       }))
       → (asked : DumpPoints) → AllByRecursion P (parts_by_address asked steps)
-  each_part P steps so asked = all_from [] 1 (segments_of m asked steps) (whole_run asked)
+  each_part P steps so asked = all_from [] 1 (segments_of m asked steps) (whole_run m asked steps)
     where
-      whole_run : (asked : DumpPoints) → flat (segments_of m asked steps) ≡ steps
-      whole_run asked =
-          let closed = (cuts m asked steps).closed in
-          let recent = (cuts m asked steps).recent in
-          flat_map-append (λ (s : Segment). s.0) closed ((recent, Termination) ∷ [])
-          ∙ ap (λ xs. flat_map (λ (s : Segment). s.0) closed ++ xs) (append-nil recent) ∙ cuts_together m asked steps
-
       of_thread : (number : ℕ) (trigger : Trigger) (thread : ℕ) (segment : List Step) (piece : IsPiece steps segment)
           (xs : List EventOnStack) → events_on_stack_of thread segment ≡ xs
           → AllByRecursion P (thread_parts number trigger thread (addr_rows_in m thread piece.before segment) xs)

@@ -17,3 +17,6 @@ pub mod AddrOwnLemmas
 pub mod ArrangedLemmas
 pub mod OneTextLemmas
 pub mod RenumberLemmas
+pub mod RunReportLemmas
+pub mod NumberLemmas
+pub mod ChosenLemmas

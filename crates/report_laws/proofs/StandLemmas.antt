@@ -20,7 +20,7 @@ use Rattle.arc_costs.specs.Rows.{ArcRow, LineRow}
 use Rattle.cg_format.specs.declared.head.PartHead.{PartHead}
 use Rattle.cg_read.specs.Profiles.{Contents, FitsCall, FitsSelf, IsProfile, NamedCall, NamedSelf, file_at, files_of}
 use Rattle.cg_read.specs.Profiles.{function_at, functions_of, has_function, has_text, named_call, named_self}
-use Rattle.cg_read.specs.Profiles.{same_function, unknown, unknown_function}
+use Rattle.cg_read.specs.Profiles.{named_call_rows, named_self_rows, same_function, unknown, unknown_function}
 use Rattle.cg_read.specs.declared.rows.CallRow.{CallRow}
 use Rattle.cg_read.specs.declared.rows.FuncKey.{FuncKey}
 use Rattle.cg_read.specs.declared.rows.SelfRow.{SelfRow}
@@ -130,6 +130,20 @@ module _ (q : Contents) (profile : IsProfile q) where
   calls_numbered names [] = refl
   calls_numbered names (row ∷ arcs) =
       ap (λ rows. call_row (numbers_in q names) row ∷ rows) (calls_numbered names arcs)
+
+-- rows with the texts of others have the numbers of these texts
+module _ (q : Contents) (profile : IsProfile q) (names : Naming) where
+  pub selfs_are : (lines : List LineRow) → named_self_rows q ≡ map (named_line names) lines
+      → q.self_rows ≡ map (self_row (numbers_in q names)) lines
+  selfs_are lines is =
+      selfs_again q profile q.self_rows (each_from _ q.self_rows profile.self_rows_fit)
+      ∙ ap (map (number_self q profile)) is ∙ selfs_numbered q profile names lines
+
+  pub calls_are : (arcs : List ArcRow) → named_call_rows q ≡ map (named_arc names) arcs
+      → q.call_rows ≡ map (call_row (numbers_in q names)) arcs
+  calls_are arcs is =
+      calls_again q profile q.call_rows (each_from _ q.call_rows profile.call_rows_fit)
+      ∙ ap (map (number_call q profile)) is ∙ calls_numbered q profile names arcs
 
 -- ---- what is shown of costs
 
@@ -253,14 +267,10 @@ module _ (head : PartHead) (command : Option (List ℕ)) (rows others : Listed) 
   p = with_rows q selfs calls
 
   others_selfs : q.self_rows ≡ map (self_row n) others.lines
-  others_selfs =
-      selfs_again q profile q.self_rows (each_from _ q.self_rows profile.self_rows_fit)
-      ∙ ap (map (number_self q profile)) of.self_rows ∙ selfs_numbered q profile names others.lines
+  others_selfs = selfs_are q profile names others.lines of.self_rows
 
   others_calls : q.call_rows ≡ map (call_row n) others.arcs
-  others_calls =
-      calls_again q profile q.call_rows (each_from _ q.call_rows profile.call_rows_fit)
-      ∙ ap (map (number_call q profile)) of.call_rows ∙ calls_numbered q profile names others.arcs
+  others_calls = calls_are q profile names others.arcs of.call_rows
 
   -- ---- sums
 

@@ -19,14 +19,14 @@ use Rattle.report_laws.proofs.AddrOwnPartLemmas.{AddrPart}
 abbrev pub as_plain : AddrPart → WrittenPart
 as_plain p = record { head = p.part.head; rows = plain p.rows }
 
-none_counted : AreCounted no_rows
+pub none_counted : AreCounted no_rows
 none_counted = record {
   lines = λ k d lt. absurd (omega arith);
   arcs = λ k d lt. absurd (omega arith);
   whole = record { lines = λ k d lt. absurd (omega arith); arcs = λ k d lt. absurd (omega arith) };
 }
 
-both_counted : (rows more : Listed) → AreCounted rows → AreCounted more → AreCounted (together rows more)
+pub both_counted : (rows more : Listed) → AreCounted rows → AreCounted more → AreCounted (together rows more)
 both_counted rows more one other = record {
   lines = All-append (λ (row : LineRow). is_some_line row ≡ true) rows.lines more.lines one.lines other.lines;
   arcs = All-append (λ (row : ArcRow). is_some_arc row ≡ true) rows.arcs more.arcs one.arcs other.arcs;

@@ -2,3 +2,4 @@ pub mod Reports
 pub mod Exact
 pub mod Sums
 pub mod Rows
+pub mod Chosen

@@ -5,6 +5,7 @@ use Rattle.call_graph.specs.Reach.{SameGroup, Steps}
 use Rattle.cg_read.specs.Profiles.{Contents}
 use Rattle.cycles.specs.Costs.{IsGroupsOf, group_at}
 use Rattle.cycles.specs.Limits.{pair_cost}
+use Rattle.part_dump.specs.Cuts.{DumpPoints}
 use Rattle.annotate.specs.Report.{IsReport, SourceTexts}
 use Rattle.report_rows.specs.declared.options.ReportOptions.{ReportOptions}
 use Rattle.profile_run.specs.Program.{Program}
@@ -27,6 +28,10 @@ PairsCountOnce guest trace p groups =
     (caller callee kind : ℕ) → kind < length p.events → caller < length p.functions → callee < length p.functions
     → group_at groups caller ≢ group_at groups callee
     → pair_cost caller callee p.call_rows kind ≡ pair_once guest trace p caller callee kind
+
+-- the same guest, whose run is cut elsewhere
+abbrev pub cut_at : DumpPoints → Program → Program
+cut_at asked guest = record guest { options = record guest.options { dump_points = asked } }
 
 -- The report on a run is that on a profile of all its rows. Its groups are those of the run's call graph, and the cost
 -- of a group is what the events cost during which one of its functions stands on their thread's stack, each counted
