@@ -32,19 +32,17 @@ use Rattle.recorder.specs.Laws.{IsIn}
 use Rattle.recorder.specs.Sums.{arc_calls, arc_cost, entered_by, is_arc, pushes, self_cost}
 use Rattle.recorder.specs.inner.TellerLaws.{arc_sum-append, call_sum-append}
 use Rattle.recorder.specs.Standing.{AreRowsOf}
-use Rattle.recorder.proofs.EnteredLemmas.{change_push}
+use Rattle.addr_rows.proofs.Others.{change_push, arc_alike, arc_itself, arc_only, arc_total, place_alike}
+use Rattle.addr_rows.proofs.Others.{place_itself, place_only, place_total, from_map, in_left, in_right, of_all}
+use Rattle.addr_rows.proofs.Others.{true_false}
 use Rattle.recorder.proofs.RowSumLemmas.{all_sum_up}
 use Rattle.arc_costs.specs.Keys.{risen}
 use Rattle.recorder.specs.Rows.{rows_of}
 use Rattle.recorder.proofs.AllRowLemmas as whole_rows
-use Rattle.recorder.proofs.ArcRowLemmas.{arc_alike, arc_itself, arc_only, arc_total}
-use Rattle.recorder.proofs.LineLemmas.{place_alike, place_itself, place_only, place_total}
-use Rattle.recorder.proofs.ListLemmas.{from_map, in_left, in_right, of_all}
 use Rattle.arc_costs.proofs.RiseLemmas as rise
 use Rattle.ctx_rows.specs.Folding.{AreSumsOf}
 use Rattle.ctx_rows.proofs.FoldedLemmas.{all_shares}
 use Rattle.ctx_rows.proofs.FrameLemmas.{kept_stack}
-use Rattle.ctx_rows.proofs.HoldsLemmas.{true_false}
 use Rattle.addr_rows.specs.Plain.{plain, plain_arc, plain_line}
 use Rattle.sym_map.specs.AddressMap.{address_map}
 use Rattle.sym_map.specs.Ranges.{address_line}

@@ -14,10 +14,9 @@ use Rattle.arc_costs.specs.Rows.{ArcRow}
 use Rattle.arc_costs.proofs.RiseLemmas as rise
 use Rattle.recorder.specs.Laws.{IsIn}
 use Rattle.recorder.specs.Rows.{arc_at, arcs, arcs_at, arcs_of, rows_of}
-use Rattle.recorder.proofs.ArcRowLemmas.{arc_only, arc_total}
+use Rattle.addr_rows.proofs.Others.{arc_only, arc_total, all_of, from_append, from_flat, from_map, in_filter, of_all}
+use Rattle.addr_rows.proofs.Others.{IsReached}
 use Rattle.recorder.proofs.KnownLemmas as plain
-use Rattle.recorder.proofs.ListLemmas.{all_of, from_append, from_flat, from_map, in_filter, of_all}
-use Rattle.ctx_rows.proofs.HoldsLemmas.{IsReached}
 use Rattle.sym_map.specs.AddressMap.{address_map}
 use Rattle.cg_format.specs.Part as part
 use Rattle.arc_costs.specs.Contents.{Listed}

@@ -1,3 +1,4 @@
+mod Others
 pub mod KnownLemmas
 pub mod TextLemmas
 pub mod AddressMapLemmas

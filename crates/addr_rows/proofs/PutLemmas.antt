@@ -16,8 +16,8 @@ use Rattle.part_dump.specs.Steps.{Step, steps_of_thread, events_on_stack_of, thr
 use Rattle.part_dump.specs.Watched.{FitAll, Fits, AreWatched, steps_in}
 use Rattle.part_dump.specs.Watching.{after_call, put_of, puts}
 use Rattle.ctx_rows.proofs.CallLemmas as told
-use Rattle.ctx_rows.proofs.CallLemmas.{flat_same, puts_from, seen_in, segment_puts, steps_by, steps_in_all, steps_more_by, thread_put}
-use Rattle.ctx_rows.proofs.HoldsLemmas.{steps_more}
+use Rattle.addr_rows.proofs.Others.{flat_same, puts_from, seen_in, segment_puts, steps_by, steps_in_all}
+use Rattle.addr_rows.proofs.Others.{steps_more_by, thread_put, steps_more}
 use Rattle.sym_map.specs.AddressMap.{address_map}
 use Rattle.addr_rows.specs.EventRows.{addr_rows_of}
 use Rattle.addr_rows.specs.Files.{addr_files, addr_rows_in, closed_files, files_from, segment_files, thread_files}

@@ -18,7 +18,7 @@ use Rattle.part_dump.specs.Steps.{Step, event_of, live, steps_of_thread, events_
 use Rattle.part_dump.specs.Watched.{FitAll, Fits, Follows, AreWatched, is_woken, last_of, most_steps}
 use Rattle.part_dump.specs.Watched.{ready_pc_after, ready_pc_by, steps_in, waits, waits_after}
 use Rattle.ctx_rows.specs.Since as contexts
-use Rattle.ctx_rows.proofs.HoldsLemmas.{steps_more}
+use Rattle.addr_rows.proofs.Others.{steps_more}
 use Rattle.addr_rows.specs.Stacked.{with_stacks_of, since_after, since_by, with_stack_of, steps_by}
 use Rattle.addr_rows.proofs.AddressMapLemmas.{address_code, address_names}
 use Rattle.addr_rows.proofs.RestackLemmas.{length_stacked, live_stacked, own_events_stacked}

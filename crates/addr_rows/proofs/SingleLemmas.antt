@@ -33,10 +33,8 @@ use Rattle.arc_costs.proofs.RiseLemmas as rise
 use Rattle.recorder.specs.Laws.{IsIn}
 use Rattle.recorder.specs.Rows.{rows_of}
 use Rattle.recorder.proofs.AllRowLemmas.{AreWhole, rows_are}
-use Rattle.recorder.proofs.ArcRowLemmas.{arc_only, arc_total}
-use Rattle.recorder.proofs.EnteredLemmas.{change_push}
-use Rattle.recorder.proofs.LineLemmas.{place_only, place_total}
-use Rattle.recorder.proofs.ListLemmas.{from_append, from_flat, from_map, in_filter, of_all}
+use Rattle.addr_rows.proofs.Others.{arc_only, arc_total, change_push, place_only, place_total, from_append, from_flat}
+use Rattle.addr_rows.proofs.Others.{from_map, in_filter, of_all}
 use Rattle.ctx_rows.specs.Contexts.{Context, context}
 use Rattle.ctx_rows.specs.Folding.{function_of, plain, plain_arc, plain_line}
 use Rattle.ctx_rows.specs.Rows.{arc_with, arcs_at, ctx_rows_of, is_some_arc, is_some_line, line_with}

@@ -18,7 +18,7 @@ use Rattle.recorder.proofs.ArcRowLemmas as plain_arcs
 use Rattle.arc_costs.proofs.KindLemmas.{cost_is}
 use Rattle.arc_costs.proofs.RiseLemmas as rise
 use Rattle.recorder.proofs.RowLemmas as row
-use Rattle.recorder.proofs.ListLemmas.{from_map}
+use Rattle.ctx_costs.proofs.Others.{from_map, at_apart}
 use Rattle.ctx_rows.specs.Contexts.{Context, context_at, AreDistinct}
 use Rattle.ctx_rows.specs.Telling.{named_arc, named_line}
 use Rattle.ctx_rows.specs.Rows.{arc_of, arc_sum, arc_with, call_sum, is_some_arc, is_some_line, line_sum, line_with}
@@ -28,7 +28,6 @@ use Rattle.ctx_rows.specs.Tracks.{IsNumber}
 use Rattle.ctx_rows.specs.declared.rows.CtxArc.{CtxArc}
 use Rattle.ctx_rows.specs.declared.rows.CtxLine.{CtxLine}
 use Rattle.ctx_rows.proofs.NamedLemmas as named
-use Rattle.ctx_rows.proofs.NumberLemmas.{at_apart}
 use Rattle.ctx_rows.proofs.OrderLemmas as ties
 use Rattle.ctx_rows.proofs.RisingLemmas as rising
 

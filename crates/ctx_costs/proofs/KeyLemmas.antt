@@ -10,11 +10,10 @@ use Rattle.std.proofs.lemmas.Bool.{eq-eqb, and_parts}
 use Rattle.std.proofs.lemmas.Bool.Decides.{nat_tests}
 use Rattle.std.proofs.lemmas.Grind.{same_number_lists}
 use Rattle.std.proofs.lemmas.List.{get_or-take, length-take-le, map-append}
-use Rattle.recorder.proofs.LineLemmas.{same_number}
+use Rattle.ctx_costs.proofs.Others.{same_number, context_alike, context_itself, none_place, place}
 use Rattle.ctx_rows.specs.Contexts.{Context, same_context, has_context, with_context}
 use Rattle.ctx_costs.specs.inner.Keys.{IsCut, listed}
 use Rattle.ctx_costs.specs.declared.context.Context.{Context as Key}
-use Rattle.ctx_rows.proofs.NumberLemmas.{context_alike, context_itself, none_place, place}
 
 pub listed_length : (a : Key) → IsCut a → length (listed a) ≡ a.len
 listed_length a cut = length-take-le a.len a.functions (omega (arith, cut.within, cut.size))

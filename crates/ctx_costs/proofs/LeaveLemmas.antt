@@ -10,7 +10,7 @@ use Rattle.event_costs.specs.Keys.{ArcKey}
 use Rattle.arc_costs.specs.Contents.{Contents}
 use Rattle.recorder.specs.inner.Tellers.{CanTell, RowsAfterTellings}
 use Rattle.recorder.specs.inner.TellerLaws.{takes_front}
-use Rattle.recorder.proofs.TellingLemmas.{none_told}
+use Rattle.ctx_costs.proofs.Others.{none_told}
 use Rattle.shadow_stack.specs.Frames.{StartWithin, closing, closings}
 use Rattle.shadow_stack.specs.declared.frame.Frame.{Frame}
 use Rattle.ctx_costs.proofs.TellingLemmas.{can_rest, told_on}

@@ -1,3 +1,4 @@
+mod Others
 pub mod TellingLemmas
 pub mod PushLemmas
 pub mod LeaveLemmas

@@ -17,7 +17,9 @@ use Rattle.shadow_stack.specs.Frames.{StartWithin, activation, closings, pushing
 use Rattle.shadow_stack.specs.Stacks.{Activation, Stack}
 use Rattle.shadow_stack.specs.declared.frame.Frame.{Frame}
 use Rattle.shadow_stack.specs.declared.frame.Kind.TheVariants.{Jump}
-use Rattle.shadow_stack.proofs.StayLemmas.{none_gone}
+use Rattle.ctx_costs.proofs.Others.{none_gone, StartWithin-take, can_tell_cut, starts_grown, IsPushed, pushes_what}
+use Rattle.ctx_costs.proofs.Others.{AreKeyed-take, closings_calls, closings_pushes, open_sum-split, none_told}
+use Rattle.ctx_costs.proofs.Others.{none_of}
 use Rattle.arc_costs.specs.Arcs.{add_arcs, arc_sum, call_sum}
 use Rattle.arc_costs.specs.Lines.{add_line, line, line_sum}
 use Rattle.event_costs.specs.Order.{same_place}
@@ -25,11 +27,6 @@ use Rattle.arc_costs.specs.Rows.{ArcRow}
 use Rattle.recorder.specs.Notes.{rows_of_tellings}
 use Rattle.recorder.specs.inner.Books.{AreKeyed}
 use Rattle.recorder.specs.inner.Tellers.{CanTell, RowsAfterTellings}
-use Rattle.recorder.proofs.BookLemmas.{StartWithin-take, can_tell_cut, starts_grown}
-use Rattle.recorder.proofs.EnteredLemmas.{IsPushed, pushes_what}
-use Rattle.recorder.proofs.SumLemmas.{AreKeyed-take, closings_calls, closings_pushes, open_sum-split}
-use Rattle.recorder.proofs.TellingLemmas.{none_told}
-use Rattle.recorder.proofs.ListLemmas.{none_of}
 use Rattle.ctx_rows.specs.Telling.{CanCount}
 use Rattle.ctx_rows.specs.States.{Track, dropped_track_frames, entered_frame, entering_arc, top_number}
 use Rattle.ctx_rows.specs.States as states

@@ -16,8 +16,7 @@ use Rattle.arc_costs.specs.Rows.{ArcRow, LineRow}
 use Rattle.recorder.specs.Accounts.{Account}
 use Rattle.recorder.specs.Notes.{open_sum}
 use Rattle.recorder.specs.Standing.{IsCutOf}
-use Rattle.recorder.proofs.BookLemmas.{sorted_some}
-use Rattle.recorder.proofs.SumLemmas.{open_share}
+use Rattle.ctx_costs.proofs.Others.{sorted_some, open_share}
 
 -- frames root first
 pub starts_items : (total : List ℕ) (items : List Frame) → StartWithin total (reverse items) → StartWithin total items

@@ -13,7 +13,7 @@ use Rattle.shadow_stack.specs.Changes.{after, change, drop_count, with_pushed}
 use Rattle.shadow_stack.specs.Frames.{activation, closing, closings, dropped_frames, pushing, stack, tellings}
 use Rattle.shadow_stack.specs.Stacks.{Activation, Stack, is_rooted}
 use Rattle.shadow_stack.specs.declared.frame.Frame.{Frame}
-use Rattle.recorder.proofs.EnteredLemmas.{IsPushed, pushes_what}
+use Rattle.ctx_costs.proofs.Others.{IsPushed, pushes_what}
 use Rattle.ctx_costs.specs.inner.Pushing.{Tells, tells}
 use Rattle.ctx_costs.specs.declared.pushes.Pushes.{Pushes}
 

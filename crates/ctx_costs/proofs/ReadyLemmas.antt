@@ -15,12 +15,11 @@ use Rattle.shadow_stack.specs.Frames.{StartWithin}
 use Rattle.shadow_stack.specs.Stacks.{root}
 use Rattle.shadow_stack.specs.declared.frame.Frame.{Frame}
 use Rattle.recorder.specs.Laws.{AreApart, IsIn}
-use Rattle.recorder.proofs.RecordingLemmas.{any-map}
+use Rattle.ctx_costs.proofs.Others.{any-map, number_is, swapped, true_false}
 use Rattle.ctx_rows.specs.Contexts.{Context, context, same_context, has_context, number, with_context, AreDistinct}
 use Rattle.ctx_rows.specs.States.{CtxState, Track, after_ready, first_track, is_track_of, knows, with_started}
 use Rattle.ctx_costs.specs.inner.Keys.{Held}
 use Rattle.ctx_costs.specs.inner.Tracks.{Book, HasBegun, IsKept, IsReadyFor, IsRoomy, IsSound, IsWatching, track_of}
-use Rattle.ctx_rows.proofs.NumberLemmas.{number_is, swapped, true_false}
 use Rattle.ctx_costs.proofs.SummedLemmas.{begun_summed}
 use Rattle.ctx_costs.proofs.WatchLemmas.{all_more, all_set, all_weaker, kept_more}
 

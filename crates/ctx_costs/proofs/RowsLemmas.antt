@@ -16,10 +16,9 @@ use Rattle.recorder.specs.Laws.{IsIn}
 use Rattle.recorder.specs.Notes.{rows_of_tellings}
 use Rattle.recorder.specs.Standing.{IsCutOf}
 use Rattle.recorder.specs.inner.TellerLaws.{arc_sum-append, call_sum-append}
-use Rattle.recorder.proofs.SumLemmas.{closings_calls, closings_costs}
+use Rattle.ctx_costs.proofs.Others.{closings_calls, closings_costs, in_filter, contains_from_in, true_of_or}
 use Rattle.recorder.proofs.ArcRowLemmas as plain_arcs
 use Rattle.recorder.proofs.LineLemmas as plain
-use Rattle.recorder.proofs.ListLemmas.{in_filter}
 use Rattle.arc_costs.proofs.RiseLemmas as rise
 use Rattle.ctx_rows.specs.Contexts.{Context, AreDistinct}
 use Rattle.ctx_rows.specs.Telling.{named_arc, named_line, rows_in, rows_of_track}
@@ -30,12 +29,10 @@ use Rattle.ctx_costs.specs.inner.Naming.{AreNamedRows}
 use Rattle.ctx_costs.specs.inner.Tracks.{IsSound}
 use Rattle.ctx_rows.specs.Tracks.{IsArcOf, IsNumber, account_of}
 use Rattle.ctx_costs.proofs.FoundLemmas as found_rows
-use Rattle.ctx_rows.proofs.NamedLemmas.{contains_from_in}
 use Rattle.ctx_rows.proofs.OrderLemmas as ties
 use Rattle.ctx_rows.proofs.RisingLemmas as rising
 use Rattle.ctx_costs.proofs.SoundLemmas.{closings_key, same_ends}
 use Rattle.ctx_costs.proofs.TellingLemmas.{has_arc-append}
-use Rattle.shadow_stack.proofs.ChainLemmas.{true_of_or}
 
 all_in : {X : Type 0} (P : X → Type 0) (xs : List X) (x : X) → All P xs → IsIn xs x → P x
 all_in P xs x all there =

@@ -18,7 +18,7 @@ use Rattle.arc_costs.specs.Arcs.{cleared_arcs}
 use Rattle.arc_costs.specs.Lines.{cleared_lines, has_line}
 use Rattle.event_costs.specs.Order.{same_place}
 use Rattle.arc_costs.specs.Rows.{LineRow}
-use Rattle.arc_costs.proofs.ArcLemmas.{cleared_keys}
+use Rattle.ctx_costs.proofs.Others.{cleared_keys, numbered_restarted, true_false}
 use Rattle.recorder.specs.Laws.{AreApart}
 use Rattle.ctx_rows.specs.Contexts.{Context, context, AreDistinct}
 use Rattle.ctx_rows.specs.Telling.{CanCount}
@@ -28,8 +28,6 @@ use Rattle.ctx_rows.specs.States.{with_started, with_track}
 use Rattle.ctx_costs.specs.inner.Keys.{Held}
 use Rattle.ctx_costs.specs.inner.Tracks.{Book, IsKept, IsPlaceOf, IsReadyFor, IsRoomy, IsSound, IsWatching, SameThread}
 use Rattle.ctx_costs.specs.inner.Tracks.{frames_of, track_of}
-use Rattle.ctx_rows.proofs.FrameLemmas.{numbered_restarted}
-use Rattle.ctx_rows.proofs.NumberLemmas.{true_false}
 use Rattle.ctx_costs.proofs.ReadyLemmas.{distinct_with, filled_with, is_there, none_is_ready, there_is, threads_of}
 use Rattle.ctx_costs.proofs.ReadyLemmas.{threads_set}
 use Rattle.ctx_costs.proofs.SummedLemmas.{cut_summed, cut_track}

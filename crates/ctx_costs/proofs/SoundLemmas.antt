@@ -22,19 +22,15 @@ use Rattle.recorder.specs.Notes.{rows_of_tellings}
 use Rattle.recorder.specs.inner.Books.{AreKeyed}
 use Rattle.recorder.specs.inner.Tellers.{RowsAfterTellings}
 use Rattle.recorder.specs.inner.TellerLaws.{rows_of_tellings-append}
-use Rattle.recorder.proofs.EnteredLemmas.{IsPushed, pushes_what}
-use Rattle.recorder.proofs.SumLemmas.{AreKeyed-take}
-use Rattle.recorder.proofs.ArcRowLemmas.{arc_alike}
-use Rattle.recorder.proofs.LineLemmas.{place_alike}
+use Rattle.ctx_costs.proofs.Others.{IsPushed, pushes_what, AreKeyed-take, arc_alike, place_alike, numbered_kept}
+use Rattle.ctx_costs.proofs.Others.{numbered_more, numbered_top, with_context_more, within_list, number_is}
+use Rattle.ctx_costs.proofs.Others.{true_of_or}
 use Rattle.ctx_rows.specs.Contexts.{Context, context, number, with_context}
 use Rattle.ctx_rows.specs.States.{Track, contexts_after, contexts_with, dropped_track_frames, kept_track_frames, pushed_track_frame, pushed_frame, track_after_event}
 use Rattle.ctx_rows.specs.States.{top_number}
 use Rattle.ctx_costs.specs.inner.Tracks.{IsSound, IsSummed}
 use Rattle.ctx_rows.specs.Tracks.{AreNumbered, IsArcOf, IsNumber}
-use Rattle.ctx_rows.proofs.FrameLemmas.{numbered_kept, numbered_more, numbered_top, with_context_more, within_list}
-use Rattle.ctx_rows.proofs.NumberLemmas.{number_is}
 use Rattle.ctx_costs.proofs.TellingLemmas.{has_arc-append}
-use Rattle.shadow_stack.proofs.ChainLemmas.{true_of_or}
 
 true_is_false : true ≡ false → ⊥
 true_is_false e = cc

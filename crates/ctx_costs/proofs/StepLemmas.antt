@@ -9,13 +9,12 @@ use Rattle.shadow_stack.specs.Changes.{Change, change, new_activation, no_change
 use Rattle.shadow_stack.specs.Frames.{stack}
 use Rattle.shadow_stack.specs.Stacks.{Activation}
 use Rattle.shadow_stack.specs.declared.frame.Frame.{Frame}
-use Rattle.recorder.proofs.EnteredLemmas.{IsPushed}
+use Rattle.ctx_costs.proofs.Others.{IsPushed, cut_again, numbered_kept, numbered_top, read_there, within_list}
 use Rattle.ctx_rows.specs.Contexts.{Context, context, context_at, number, with_context}
 use Rattle.ctx_rows.specs.Telling.{CanCount}
 use Rattle.ctx_rows.specs.States.{Track, contexts_after, contexts_with, entered_frame, kept_track_frames, pushed_track_frame, pushed_frame}
 use Rattle.ctx_rows.specs.States.{track_after_event, top_number}
 use Rattle.ctx_rows.specs.Tracks.{AreNumbered}
-use Rattle.ctx_rows.proofs.FrameLemmas.{cut_again, numbered_kept, numbered_top, read_there, within_list}
 use Rattle.ctx_costs.specs.inner.Tracks.{Book, IsKept, IsSound, frames_of, track_of}
 use Rattle.ctx_costs.proofs.NoteLemmas as note
 use Rattle.ctx_costs.proofs.NoteLemmas.{Counted, HasStepped, IsCounted, IsEntered, IsLeft}

@@ -23,18 +23,18 @@ use Rattle.arc_costs.specs.Contents.{Contents}
 use Rattle.arc_costs.specs.Lines.{cleared_lines, line_sum}
 use Rattle.event_costs.specs.Order.{same_arc}
 use Rattle.arc_costs.specs.Rows.{ArcRow}
-use Rattle.arc_costs.proofs.ArcLemmas.{cleared_keys, none_stand, same_arc_laws}
+use Rattle.ctx_costs.proofs.Others.{cleared_keys, none_stand, same_arc_laws, StartWithin-take, starts_grown}
+use Rattle.ctx_costs.proofs.Others.{whole_sum, AreKeyed-drop, closings_calls, closings_costs, open_sum-restarted}
+use Rattle.ctx_costs.proofs.Others.{open_sum-split, open_sum-with, pushing_calls, pushing_costs, kept_stack}
+use Rattle.ctx_costs.proofs.Others.{starts_with}
 use Rattle.arc_costs.proofs.LineLemmas as plain
 use Rattle.recorder.specs.Notes.{open_sum, rows_of_tellings}
 use Rattle.recorder.specs.inner.Books.{AreKeyed}
 use Rattle.recorder.specs.inner.Tellers.{RowsAfterTellings}
 use Rattle.recorder.specs.inner.TellerLaws.{telling_calls-append, telling_costs-append, rows_of_tellings-append}
-use Rattle.recorder.proofs.BookLemmas.{StartWithin-take, starts_grown, whole_sum}
-use Rattle.recorder.proofs.SumLemmas.{AreKeyed-drop, closings_calls, closings_costs, open_sum-restarted, open_sum-split, open_sum-with, pushing_calls, pushing_costs}
 use Rattle.recorder.proofs.BoundLemmas.{pushes_one}
 use Rattle.ctx_rows.specs.Telling.{CanCount}
 use Rattle.ctx_rows.specs.States.{Track, first_track, track_after_cut, dropped_track_frames, kept_track_frames}
-use Rattle.ctx_rows.proofs.FrameLemmas.{kept_stack, starts_with}
 use Rattle.ctx_costs.proofs.TellingLemmas.{has_arc-append}
 use Rattle.ctx_costs.specs.inner.Tracks.{Book, IsSummed, SameThread, frames_of, stepped, track_of}
 use Rattle.std.proofs.lemmas.Bool.{or_left, or_right}

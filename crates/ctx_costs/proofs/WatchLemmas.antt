@@ -12,7 +12,7 @@ use Rattle.recorder.specs.Laws.{AreApart, IsIn}
 use Rattle.ctx_rows.specs.Contexts.{Context, with_context}
 use Rattle.ctx_rows.specs.States.{Track, track_in, with_track}
 use Rattle.ctx_costs.specs.inner.Tracks.{Book, IsKept, IsPlaceOf, IsSound, track_of}
-use Rattle.ctx_rows.proofs.FrameLemmas.{numbered_more, with_context_more}
+use Rattle.ctx_costs.proofs.Others.{numbered_more, with_context_more}
 
 -- a track is found where its thread's only one stands
 pub track_at : (books : List Book) (thread : ThreadNo) (place : ℕ) (d : Book)

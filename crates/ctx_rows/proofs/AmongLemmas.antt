@@ -3,7 +3,7 @@ use Rattle.std.proofs.Common.{◌≡◌, inl, inr, ℕ, zero, suc, ◌<◌, List
 use Rattle.std.proofs.Common.{All, Contains, flat_map, get_or, length, map}
 use Rattle.std.proofs.Common.{refl, sym, subst, arith}
 use Rattle.recorder.specs.Laws.{IsIn}
-use Rattle.recorder.proofs.ListLemmas.{in_left, in_right, in_flat}
+use Rattle.ctx_rows.proofs.Others.{in_left, in_right, in_flat}
 use Rattle.arc_costs.proofs.RiseLemmas.{in-map}
 use Rattle.ctx_rows.specs.Contexts.{Context}
 use Rattle.ctx_rows.specs.Rows.{CtxListed}

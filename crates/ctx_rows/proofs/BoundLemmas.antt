@@ -20,15 +20,13 @@ use Rattle.arc_costs.specs.Lines.{add_line, line, line_sum, plus_line, place_of 
 use Rattle.event_costs.specs.Order.{same_arc, same_place}
 use Rattle.arc_costs.specs.Rows as rows
 use Rattle.arc_costs.specs.Rows.{ArcRow, LineRow}
-use Rattle.arc_costs.proofs.RowLemmas.{sum_at_one, zero_replicate}
+use Rattle.ctx_rows.proofs.Others.{sum_at_one, zero_replicate, open_sum-below, sum_below, pushes_one, arc_alike}
+use Rattle.ctx_rows.proofs.Others.{place_alike}
 use Rattle.recorder.specs.Bounds.{IsUnit, SumsWithin}
 use Rattle.recorder.specs.Notes.{open_sum, rows_of_tellings}
 use Rattle.recorder.specs.Sums.{entered_by, is_arc}
 use Rattle.recorder.specs.inner.TellerLaws.{telling_calls-append, telling_costs-append}
-use Rattle.recorder.proofs.BoundLemmas.{open_sum-below, sum_below, pushes_one}
 use Rattle.recorder.proofs.SumLemmas.{closings_calls, open_sum-cons, open_sum-split, open_sum-with, pushing_calls, pushing_costs}
-use Rattle.recorder.proofs.ArcRowLemmas.{arc_alike}
-use Rattle.recorder.proofs.LineLemmas.{place_alike}
 use Rattle.ctx_rows.specs.Contexts.{Context}
 use Rattle.ctx_rows.specs.Telling.{CanCount}
 use Rattle.ctx_rows.specs.States.{Track, first_track, dropped_track_frames, kept_track_frames, pushed_track_frame, track_after_event, top_number}

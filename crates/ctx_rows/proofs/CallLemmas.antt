@@ -23,7 +23,7 @@ use Rattle.part_dump.specs.Calls.{part_calls, segment_calls, steps_calls, thread
 use Rattle.part_dump.specs.Cuts.{DumpPoints, cuts}
 use Rattle.part_dump.specs.Steps.{Step, greatest, steps_of_thread, events_on_stack_of, thread_of, threads}
 use Rattle.part_dump.specs.Watched.{steps_in, steps_of}
-use Rattle.part_dump.proofs.LiveLemmas.{above_greatest}
+use Rattle.ctx_rows.proofs.Others.{above_greatest}
 use Rattle.ctx_rows.proofs.HoldsLemmas.{if_other, if_same}
 
 pub flat_same : {X Y : Type 0} (f g : X → List Y) → ((x : X) → f x ≡ g x) → (xs : List X) → flat_map f xs ≡ flat_map g xs

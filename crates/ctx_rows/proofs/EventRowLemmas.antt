@@ -16,13 +16,11 @@ use Rattle.shadow_stack.specs.Changes.{change}
 use Rattle.shadow_stack.specs.Frames.{closings}
 use Rattle.shadow_stack.specs.Stacks.{Stack}
 use Rattle.shadow_stack.specs.Traces.{EventOnStack}
-use Rattle.arc_costs.proofs.RowLemmas.{sum_at-append}
+use Rattle.ctx_rows.proofs.Others.{sum_at-append, either, in_flat, in_left, in_right, in_filter, to_filter}
+use Rattle.ctx_rows.proofs.Others.{kind_within, some_kind, some_passes}
 use Rattle.recorder.specs.Laws.{IsIn}
 use Rattle.recorder.specs.Notes.{rows_of_tellings}
 use Rattle.arc_costs.specs.Keys.{by_kind, risen}
-use Rattle.recorder.proofs.ArcRowLemmas.{either}
-use Rattle.recorder.proofs.ListLemmas.{in_flat, in_left, in_right, in_filter, to_filter}
-use Rattle.recorder.proofs.LineLemmas.{kind_within, some_kind, some_passes}
 use Rattle.arc_costs.proofs.RiseLemmas as rise
 use Rattle.recorder.proofs.RowLemmas as row
 use Rattle.ctx_rows.specs.Contexts.{Context}

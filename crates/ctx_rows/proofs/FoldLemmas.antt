@@ -8,7 +8,7 @@ use Rattle.arc_costs.specs.Contents.{Listed}
 use Rattle.arc_costs.specs.Lines.{LinesStandFor, is_some_line, place_of}
 use Rattle.event_costs.specs.Order.{arc_order, place_order}
 use Rattle.arc_costs.specs.Rows.{ArcRow, LineRow}
-use Rattle.recorder.proofs.BookLemmas.{sorted_some}
+use Rattle.ctx_rows.proofs.Others.{sorted_some}
 use Rattle.ctx_rows.specs.Folding.{AreSumsOf}
 
 pub sums_of : {E : Type 0} (r : Result Listed E) (all : Listed) (lines : List LineRow) (arcs : List ArcRow)

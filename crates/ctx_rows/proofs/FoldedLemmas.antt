@@ -30,15 +30,13 @@ use Rattle.arc_costs.specs.Lines as lines
 use Rattle.event_costs.specs.Order as order
 use Rattle.arc_costs.specs.Totals.{is_some_cost}
 use Rattle.arc_costs.specs.Rows.{ArcRow, LineRow}
-use Rattle.arc_costs.proofs.RowLemmas.{zero_number}
+use Rattle.ctx_rows.proofs.Others.{zero_number, change_push, count_is, in_flat, in_left, in_right, from_flat, of_all}
+use Rattle.ctx_rows.proofs.Others.{from_map}
 use Rattle.recorder.specs.Laws.{IsIn}
 use Rattle.recorder.specs.Sums as plain
-use Rattle.recorder.proofs.EnteredLemmas.{change_push}
 use Rattle.arc_costs.specs.Keys.{risen}
 use Rattle.recorder.specs.Rows.{rows_of}
 use Rattle.recorder.proofs.AllRowLemmas.{rows_are}
-use Rattle.recorder.proofs.ArcRowLemmas.{count_is}
-use Rattle.recorder.proofs.ListLemmas.{in_flat, in_left, in_right, from_flat, of_all, from_map}
 use Rattle.arc_costs.proofs.KindLemmas.{by_kind_all}
 use Rattle.arc_costs.proofs.RiseLemmas as rise
 use Rattle.recorder.proofs.RowLemmas as row

@@ -13,19 +13,16 @@ use Rattle.shadow_stack.specs.Changes.{after, change}
 use Rattle.shadow_stack.specs.Stacks.{Activation, Stack, is_rooted, root, top_of}
 use Rattle.shadow_stack.specs.Traces.{EventOnStack, stack_of}
 use Rattle.shadow_stack.specs.declared.frame.Kind.TheVariants.{Root}
-use Rattle.shadow_stack.proofs.ChangeLemmas.{rooted-some}
-use Rattle.shadow_stack.proofs.FrameLemmas.{after-rooted}
+use Rattle.ctx_rows.proofs.Others.{rooted-some, after-rooted, within_cut, units, events-push, length-push, own-other}
+use Rattle.ctx_rows.proofs.Others.{is_not, own-push, same_stack, stack-push, frames_within, last-push, readied-append}
+use Rattle.ctx_rows.proofs.Others.{same_thread}
 use Rattle.recorder.specs.Bounds.{IsUnit, SumsWithin}
-use Rattle.recorder.proofs.BoundLemmas.{within_cut, units}
 use Rattle.recorder.proofs.TopLaws.{top_follows}
 use Rattle.part_dump.specs.Calls.{Call, Readies, Sees}
 use Rattle.part_dump.specs.Steps.{Step, event_of, frames_in, steps_of_thread, events_of_thread, stack_at, thread_of}
 use Rattle.part_dump.specs.Watched.{Fits, Follows, IsOrderly, last_of, ready_pc, ready_pc_after, ready_pc_by}
 use Rattle.part_dump.specs.Watched.{steps_in, steps_of}
 use Rattle.part_dump.specs.Watching.{after_call}
-use Rattle.part_dump.proofs.StepLemmas.{events-push, length-push, own-other, is_not, own-push, same_stack, stack-push}
-use Rattle.part_dump.proofs.LiveLemmas.{frames_within}
-use Rattle.part_dump.proofs.WatchLemmas.{last-push, readied-append}
 use Rattle.ctx_rows.specs.Contexts.{Context, context, number, with_context}
 use Rattle.ctx_rows.specs.Telling.{CanCount, CanSee}
 use Rattle.ctx_rows.specs.Since.{AreEntered, StandsOn, since, since_after, since_by}
@@ -39,7 +36,6 @@ use Rattle.ctx_rows.proofs.StackLemmas.{entered_after, entered_root, few_roots}
 use Rattle.ctx_rows.proofs.TrackLemmas.{knows_append, knows_with, track_append, track_new, track_other, track_with}
 use Rattle.ctx_rows.proofs.TrackedLemmas.{IsTracked, tracked_begun, tracked_cut, tracked_seen, tracked_with}
 use Rattle.std.proofs.lemmas.Bool.{or_right}
-use Rattle.recorder.proofs.RecordingLemmas.{same_thread}
 use Rattle.recorder.proofs.ThreadBounds.{within_later}
 
 -- ---- what calls are told, one after another

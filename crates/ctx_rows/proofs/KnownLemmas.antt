@@ -7,7 +7,7 @@ use Rattle.std.proofs.lemmas.List.{get_or-map, length-map}
 use Rattle.sym_map.specs.SymbolMap.{IsFunc, SymbolMap}
 use Rattle.recorder.specs.Laws.{IsIn}
 use Rattle.cg_format.specs.Part as part
-use Rattle.recorder.proofs.ListLemmas.{from_append, from_flat, from_map}
+use Rattle.ctx_rows.proofs.Others.{from_append, from_flat, from_map}
 use Rattle.arc_costs.proofs.RiseLemmas as rise
 use Rattle.ctx_rows.specs.Contexts.{Context, context_order, number}
 use Rattle.ctx_rows.specs.Known.{AreKnown, IsKnownArc, IsKnownContext, IsKnownLine}

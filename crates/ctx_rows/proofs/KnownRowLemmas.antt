@@ -12,13 +12,12 @@ use Rattle.shadow_stack.specs.Kinds.{is_root}
 use Rattle.shadow_stack.specs.Stacks.{Activation, Stack, top_of}
 use Rattle.shadow_stack.specs.Traces.{EventOnStack}
 use Rattle.shadow_stack.specs.declared.frame.Kind.{Kind}
-use Rattle.shadow_stack.proofs.ChangeLemmas.{change-end, rooted-some}
+use Rattle.ctx_rows.proofs.Others.{change-end, rooted-some, change_push, in_right, of_all, all_of, from_append}
+use Rattle.ctx_rows.proofs.Others.{from_flat, in_filter, from_map}
 use Rattle.recorder.specs.Laws.{IsIn}
-use Rattle.recorder.proofs.EnteredLemmas.{change_push}
 use Rattle.arc_costs.specs.Keys.{risen}
 use Rattle.recorder.specs.inner.Known.{KnowsPlaces}
 use Rattle.recorder.proofs.KnownLemmas as plain
-use Rattle.recorder.proofs.ListLemmas.{in_right, of_all, all_of, from_append, from_flat, in_filter, from_map}
 use Rattle.arc_costs.proofs.RiseLemmas as rise
 use Rattle.ctx_rows.specs.Contexts.{context}
 use Rattle.ctx_rows.specs.Known.{AreKnown, IsKnownArc, IsKnownContext, IsKnownLine}

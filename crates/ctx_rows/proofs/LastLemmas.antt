@@ -13,7 +13,7 @@ use Rattle.part_dump.specs.Calls.{Call, Readies, Sees, Writes}
 use Rattle.part_dump.specs.Steps.{Step, steps_of_thread}
 use Rattle.part_dump.specs.Watched.{FitAll, Fits, AreWatched, ready_pc, steps_in}
 use Rattle.part_dump.specs.Watching.{Can, after_call, after_calls}
-use Rattle.part_dump.proofs.WatchLemmas.{last-push}
+use Rattle.ctx_rows.proofs.Others.{last-push, same_thread}
 use Rattle.ctx_rows.specs.Rows.{ctx_rows_of}
 use Rattle.ctx_rows.specs.Known.{AreKnown}
 use Rattle.ctx_rows.specs.Telling.{CanSee, CanWrite, rows_in}
@@ -26,7 +26,6 @@ use Rattle.ctx_rows.proofs.HoldsLemmas.{holds_seen, if_other, if_same}
 use Rattle.ctx_rows.proofs.HoldsLemmas.{moved, readied_more, since_more, stands_at, steps_more, true_false}
 use Rattle.ctx_rows.proofs.KnownRowLemmas.{rows_known}
 use Rattle.ctx_rows.proofs.TrackLemmas.{knows_with, track_other, track_with}
-use Rattle.recorder.proofs.RecordingLemmas.{same_thread}
 
 -- the rows that a watch has of a thread
 pub rows_now : (syms : SymbolMap) (callers : ℕ) (w : CtxState) (calls : List Call) → Holds syms callers w calls

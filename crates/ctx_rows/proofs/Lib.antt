@@ -1,3 +1,4 @@
+mod Others
 pub mod ListLemmas
 mod SearchLemmas
 pub mod RankLemmas

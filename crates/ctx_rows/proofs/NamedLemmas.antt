@@ -10,10 +10,9 @@ use Rattle.std.proofs.lemmas.List.Sums.{sum_by-cons}
 use Rattle.arc_costs.specs.Rows as rows
 use Rattle.recorder.specs.Laws.{IsIn}
 use Rattle.arc_costs.specs.Keys.{risen}
-use Rattle.recorder.proofs.LineLemmas.{some_passes}
+use Rattle.ctx_rows.proofs.Others.{some_passes, from_map}
 use Rattle.arc_costs.proofs.RiseLemmas as rise
 use Rattle.recorder.proofs.RowLemmas as row
-use Rattle.recorder.proofs.ListLemmas.{from_map}
 
 -- ---- elements
 

@@ -14,10 +14,9 @@ use Rattle.shadow_stack.specs.Frames.{StartWithin, closing, closings, frame_of, 
 use Rattle.shadow_stack.specs.Frames.{with_frame}
 use Rattle.shadow_stack.specs.Stacks.{Activation, Stack}
 use Rattle.shadow_stack.specs.declared.frame.Frame.{Frame}
-use Rattle.shadow_stack.proofs.TellingLemmas.{StartWithin-tail}
+use Rattle.ctx_rows.proofs.Others.{StartWithin-tail, number_of_sum, sum_at-append, sum_at_one, zero_replicate}
 use Rattle.arc_costs.specs.Arcs.{call_of_arc, cost_of_arc}
 use Rattle.arc_costs.specs.Rows.{ArcRow}
-use Rattle.arc_costs.proofs.RowLemmas.{number_of_sum, sum_at-append, sum_at_one, zero_replicate}
 use Rattle.recorder.specs.Notes.{rows_of_tellings}
 use Rattle.recorder.specs.inner.TellerLaws.{rows_of_tellings-append}
 use Rattle.ctx_rows.specs.Contexts.{Context}

@@ -12,7 +12,7 @@ use Rattle.std.proofs.lemmas.List.Sorted.{sorted_far}
 use Rattle.std.proofs.lemmas.List.Sums.{sum_by-cons}
 use Rattle.arc_costs.specs.Rows as rows
 use Rattle.recorder.specs.Laws.{IsIn}
-use Rattle.recorder.proofs.ListLemmas.{from_map}
+use Rattle.ctx_rows.proofs.Others.{from_map}
 use Rattle.arc_costs.proofs.RiseLemmas as rise
 use Rattle.ctx_rows.proofs.NamedLemmas.{contains_from_in}
 

@@ -8,9 +8,8 @@ use Rattle.shadow_stack.specs.Changes.{after, change, new_activation, drop_count
 use Rattle.shadow_stack.specs.Kinds.{is_root}
 use Rattle.shadow_stack.specs.Stacks.{Activation, Stack, root}
 use Rattle.shadow_stack.specs.declared.frame.Kind.{Kind}
-use Rattle.recorder.proofs.EnteredLemmas.{change_push}
+use Rattle.ctx_rows.proofs.Others.{change_push, count_is}
 use Rattle.part_dump.specs.Steps.{frames_in}
-use Rattle.recorder.proofs.ArcRowLemmas.{count_is}
 use Rattle.ctx_rows.specs.Since.{AreEntered}
 use Rattle.ctx_rows.proofs.FrameLemmas.{kept_stack}
 

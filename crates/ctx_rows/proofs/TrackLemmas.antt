@@ -7,7 +7,7 @@ use Rattle.std.proofs.lemmas.Bool.{eq-eqb, or_parts}
 use Rattle.std.proofs.lemmas.Bool.Decides.{nat_tests}
 use Rattle.event_costs.specs.declared.numbers.ThreadNo.{ThreadNo}
 use Rattle.ctx_rows.specs.States.{Track, is_track_of, empty_track, track_in, with_track}
-use Rattle.part_dump.proofs.StepLemmas.{is_not}
+use Rattle.ctx_rows.proofs.Others.{is_not}
 
 true_false : true ≡ false → ⊥
 true_false e = cc

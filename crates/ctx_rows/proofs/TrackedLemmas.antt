@@ -17,22 +17,18 @@ use Rattle.shadow_stack.specs.Stacks.{Activation, Stack, is_rooted, root}
 use Rattle.shadow_stack.specs.Traces.{EventOnStack}
 use Rattle.shadow_stack.specs.declared.frame.Frame.{Frame}
 use Rattle.shadow_stack.specs.declared.frame.Kind.TheVariants.{Root}
-use Rattle.shadow_stack.proofs.FrameLemmas.{StartWithin-drop, StartWithin-restarted}
-use Rattle.shadow_stack.proofs.TellingLemmas.{StartWithin-tail}
+use Rattle.ctx_rows.proofs.Others.{StartWithin-drop, StartWithin-restarted, StartWithin-tail, number_of_sum}
+use Rattle.ctx_rows.proofs.Others.{sum_at_none, zero_replicate, StartWithin-take, starts_grown, whole_sum, IsPushed}
+use Rattle.ctx_rows.proofs.Others.{pushes_what, arc_alike, place_alike}
 use Rattle.arc_costs.specs.Arcs.{add_arcs, cleared_arcs, plus_arc}
 use Rattle.arc_costs.specs.Arcs as arcs
 use Rattle.arc_costs.specs.Lines.{add_line, cleared_lines, line, plus_line}
 use Rattle.arc_costs.specs.Lines as lines
 use Rattle.event_costs.specs.Order as order
 use Rattle.arc_costs.specs.Rows.{ArcRow, LineRow}
-use Rattle.arc_costs.proofs.RowLemmas.{number_of_sum, sum_at_none, zero_replicate}
 use Rattle.recorder.specs.Notes.{rows_of_tellings}
 use Rattle.recorder.specs.inner.TellerLaws.{rows_of_tellings-append}
-use Rattle.recorder.proofs.BookLemmas.{StartWithin-take, starts_grown, whole_sum}
-use Rattle.recorder.proofs.EnteredLemmas.{IsPushed, pushes_what}
 use Rattle.recorder.proofs.StandingLemmas.{one_more_sum}
-use Rattle.recorder.proofs.ArcRowLemmas.{arc_alike}
-use Rattle.recorder.proofs.LineLemmas.{place_alike}
 use Rattle.ctx_rows.specs.Contexts.{Context, context, context_at, number, with_context}
 use Rattle.ctx_rows.specs.Rows.{arc_of, arc_sum, call_sum, line_sum, place_of as ctx_place_of}
 use Rattle.ctx_rows.specs.Sums.{CtxArcKey, CtxPlace, arc_calls, arc_cost, counts_at, ctx_arc, ctx_arc_of, ctx_arcs}

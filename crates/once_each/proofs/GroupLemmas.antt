@@ -1,12 +1,12 @@
 -- The groups over the rows are those of the graph.
 use Rattle.std.proofs.Common.{◌≡◌, ℕ, ◌↔◌, List, map, refl, sym, ap, subst, ◌∙◌, Contains, inl, inr}
 use Rattle.sym_map.specs.SymbolMap.{SymbolMap}
-use Rattle.sym_map.proofs.Members.{Contains-from_map, Contains-map}
+use Rattle.once_each.proofs.Others.{Contains-from_map, Contains-map, leads_from_same, same_back, same_by}
+use Rattle.once_each.proofs.Others.{same_from_leads}
 use Rattle.shadow_stack.specs.Traces.{CountedEvent}
 use Rattle.arc_costs.specs.Rows.{ArcRow}
 use Rattle.call_graph.specs.Reach.{Reach, SameGroup, Steps, one, more}
 use Rattle.call_graph.specs.declared.arc.CallArc.{CallArc}
-use Rattle.call_graph.proofs.ReachLemmas.{leads_from_same, same_back, same_by, same_from_leads}
 use Rattle.cg_read.specs.Profiles.{Contents}
 use Rattle.cg_read.specs.declared.rows.CallRow.{CallRow}
 use Rattle.cycles.specs.Costs.{arc_of, call_arcs}

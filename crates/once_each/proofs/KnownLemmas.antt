@@ -8,13 +8,12 @@ use Rattle.std.proofs.lemmas.List.Elements.{All-from_recursion, recursion_from_A
 use Rattle.event_costs.specs.declared.event.Event.{Event}
 use Rattle.event_costs.specs.declared.numbers.ThreadNo.{ThreadNo}
 use Rattle.sym_map.specs.SymbolMap.{SymbolMap, place_of}
-use Rattle.sym_map.proofs.Members.{first_or_rest}
+use Rattle.once_each.proofs.Others.{first_or_rest, change-end}
 use Rattle.shadow_stack.specs.declared.frame.Kind.{Kind}
 use Rattle.shadow_stack.specs.Kinds.{is_root}
 use Rattle.shadow_stack.specs.Stacks.{Activation, Stack, root}
 use Rattle.shadow_stack.specs.Changes.{after, change, new_activation, next_func, with_pushed}
 use Rattle.shadow_stack.specs.Traces.{CountedEvent, EventOnStack, is_by, events_by, events_on_stacks, events_on_stacks_from, stack_after, stack_of}
-use Rattle.shadow_stack.proofs.ChangeLemmas.{change-end}
 use Rattle.call_graph.specs.Reach.{IsGroup, SameGroup, Steps}
 use Rattle.call_graph.specs.declared.arc.CallArc.{CallArc}
 use Rattle.cg_read.specs.Profiles.{Contents}

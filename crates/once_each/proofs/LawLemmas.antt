@@ -9,14 +9,13 @@ use Rattle.std.proofs.lemmas.List.Elements.{All-contains}
 use Rattle.event_costs.specs.Costs.{event_names, events_shown}
 use Rattle.event_costs.specs.declared.numbers.FuncId.{FuncId}
 use Rattle.sym_map.specs.SymbolMap.{SymbolMap, place_of}
-use Rattle.sym_map.proofs.Members.{Contains-map}
+use Rattle.once_each.proofs.Others.{Contains-map, leads_after, leads_from_same, same_back, same_from_leads}
 use Rattle.shadow_stack.specs.Stacks.{Stack, top_of}
 use Rattle.shadow_stack.specs.Traces.{CountedEvent, EventOnStack, events_on_stacks}
 use Rattle.arc_costs.specs.Rows.{ArcRow, LineRow}
 use Rattle.call_graph.specs.Reach.{IsGroup, Reach, SameGroup, Steps, one, more}
 use Rattle.call_graph.specs.inner.Pass.{Leads}
 use Rattle.call_graph.specs.declared.arc.CallArc.{CallArc}
-use Rattle.call_graph.proofs.ReachLemmas.{leads_after, leads_from_same, same_back, same_from_leads}
 use Rattle.cg_read.specs.Profiles.{Contents}
 use Rattle.cg_read.specs.declared.rows.CallRow.{CallRow}
 use Rattle.cg_read.specs.declared.rows.SelfRow.{SelfRow}

@@ -1,3 +1,4 @@
+mod Others
 pub mod BoundLemmas
 pub mod ExchangeLemmas
 pub mod GraphLemmas

@@ -7,7 +7,7 @@ use Rattle.std.specs.List.{AllByRecursion, AllZip}
 use Rattle.std.proofs.lemmas.List.Sums.{sum_by-cons}
 use Rattle.std.proofs.lemmas.List.Elements.{All-contains_itself, All-weaker}
 use Rattle.std.proofs.lemmas.List.Elements.{Contains-append_cases, Contains-append_left, Contains-append_right}
-use Rattle.sym_map.proofs.Members.{Contains-cons, Contains-first, first_or_rest}
+use Rattle.once_each.proofs.Others.{Contains-cons, Contains-first, first_or_rest}
 
 -- an element with a property
 pub record Some_of {X : Type 0} (P : X → Type 0) (xs : List X) : Type 0 where

@@ -11,14 +11,13 @@ use Rattle.event_costs.specs.Runs.{Run}
 use Rattle.event_costs.specs.declared.event.Event.{Event}
 use Rattle.event_costs.specs.declared.numbers.ThreadNo.{ThreadNo}
 use Rattle.sym_map.specs.SymbolMap.{SymbolMap}
-use Rattle.sym_map.proofs.Members.{Contains-first, first_or_rest}
+use Rattle.once_each.proofs.Others.{Contains-first, first_or_rest, Holds, holds_first, holds_next}
 use Rattle.shadow_stack.specs.Stacks.{Stack}
 use Rattle.shadow_stack.specs.Traces.{CountedEvent, EventOnStack, events_by, events_on_stacks, event_on_stack_after, events_on_stacks_from, stack_of}
 use Rattle.guest_load.specs.Guest.{Guest}
 use Rattle.guest_sched.specs.Laws.{IsReached, after_last, is_step_of, last_step, later, pc_after, start_pc}
 use Rattle.guest_sched.specs.Machine.{Machine, new_machine, next}
 use Rattle.guest_sched.specs.Step.{MachineStep}
-use Rattle.guest_sched.proofs.OrderLemmas.{Holds, holds_first, holds_next}
 use Rattle.cg_format.specs.Rows.{below}
 use Rattle.part_dump.specs.Calls.{Call, Readies, Sees, Writes}
 use Rattle.part_dump.specs.Steps.{Step, event_of, frames_in, greatest, live, stack_at, thread_of, threads}

@@ -19,13 +19,11 @@ use Rattle.shadow_stack.specs.Stacks.{Activation, Stack, root}
 use Rattle.shadow_stack.specs.Changes.{Change, after, change, change_by, cut, down_to, new_activation, next_func, settle}
 use Rattle.shadow_stack.specs.Changes.{settle_on, with_pushed}
 use Rattle.shadow_stack.specs.Traces.{CountedEvent, EventOnStack, is_by, events_by, events_on_stacks, event_on_stack_after, events_on_stacks_from, stack_of}
-use Rattle.shadow_stack.proofs.ChangeLemmas.{change-end}
+use Rattle.once_each.proofs.Others.{change-end, Contains-first, same_thread}
 use Rattle.call_graph.specs.Reach.{Steps}
-use Rattle.sym_map.proofs.Members.{Contains-first}
 use Rattle.once_each.specs.Graphs.{arcs_of, arcs_pushed, between, graph}
 use Rattle.once_each.proofs.MemberLemmas.{Contains-flat_map, each_from}
 use Rattle.once_each.proofs.StackLemmas.{IsChain, IsOn}
-use Rattle.recorder.proofs.RecordingLemmas.{same_thread}
 
 -- what an event pushes, if anything, is entered from what it keeps
 abbrev pub IsEntered : SymbolMap → Event → Change → Type 0

@@ -17,7 +17,7 @@ use Rattle.recorder.specs.Standing.{last_events_on_stack, events_on_stack, stack
 use Rattle.recorder.specs.Sums.{of_thread}
 use Rattle.once_each.specs.Segments.{BeginsAt, own_pieces, stacked_pieces}
 use Rattle.once_each.proofs.SeenLemmas.{append_none, events_by-push}
-use Rattle.recorder.proofs.RecordingLemmas.{same_thread}
+use Rattle.once_each.proofs.Others.{same_thread}
 
 -- Pieces of a trace
 

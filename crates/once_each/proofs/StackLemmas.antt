@@ -8,7 +8,7 @@ use Rattle.shadow_stack.specs.Kinds.{is_root}
 use Rattle.shadow_stack.specs.Stacks.{Activation, Stack}
 use Rattle.call_graph.specs.Reach.{Reach, one}
 use Rattle.call_graph.specs.inner.Pass.{Leads}
-use Rattle.call_graph.proofs.ReachLemmas.{leads_after}
+use Rattle.once_each.proofs.Others.{leads_after}
 use Rattle.once_each.specs.Once.{stands, stands_on}
 
 -- an arc passes, if there is one

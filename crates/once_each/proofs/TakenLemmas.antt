@@ -13,7 +13,7 @@ use Rattle.guest_sched.specs.Laws.{IsReached, after_last, is_step_of, pc_after, 
 use Rattle.guest_sched.specs.Laws as told
 use Rattle.guest_sched.specs.Machine.{Machine, new_machine, next}
 use Rattle.guest_sched.specs.Step.{MachineStep}
-use Rattle.guest_sched.proofs.OrderLemmas.{Holds, holds_first, holds_next}
+use Rattle.once_each.proofs.Others.{Holds, holds_first, holds_next}
 use Rattle.part_dump.specs.Steps.{Step, event_of, steps_of_thread}
 use Rattle.part_dump.specs.Watched.{Follows, IsOrderly, last_of}
 use Rattle.part_dump.specs.Watched as watched

@@ -7,7 +7,7 @@ use Rattle.std.proofs.lemmas.List.Sums.{passes_at_first, position_or_len_is}
 use Rattle.std.proofs.lemmas.Slice.Eq.{bytes_eq-Decides}
 use Rattle.std.proofs.lemmas.List.Elements.{All-contains}
 use Rattle.sym_map.specs.SymbolMap.{SymbolMap}
-use Rattle.sym_map.proofs.Members.{Contains-from_map}
+use Rattle.once_each.proofs.Others.{Contains-from_map}
 use Rattle.call_graph.specs.Reach.{Steps}
 use Rattle.call_graph.specs.declared.arc.CallArc.{CallArc}
 use Rattle.cycles.specs.Costs.{arc_of, call_arcs}

@@ -15,7 +15,7 @@ use Rattle.event_costs.specs.declared.numbers.ThreadNo.{ThreadNo}
 use Rattle.cg_format.specs.declared.trigger.Trigger.{Trigger}
 use Rattle.cg_format.specs.declared.trigger.Trigger.TheVariants.{Termination}
 use Rattle.sym_map.specs.SymbolMap.{SymbolMap}
-use Rattle.sym_map.proofs.Members.{Contains-cons, Contains-first, Contains-from_map, Contains-map, first_or_rest}
+use Rattle.once_each.proofs.Others.{Contains-cons, Contains-first, Contains-from_map, Contains-map, first_or_rest}
 use Rattle.shadow_stack.specs.Traces.{EventOnStack, events_on_stacks}
 use Rattle.arc_costs.specs.Contents.{Listed}
 use Rattle.recorder.specs.Standing.{AreRowsOf}

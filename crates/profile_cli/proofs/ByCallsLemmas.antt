@@ -33,17 +33,15 @@ use Rattle.profile_files.specs.Reading as reading
 use Rattle.profile_files.specs.WantedFile.{WantedFile}
 use Rattle.profile_files.specs.declared.fault.ReadFault.{ReadFault}
 use Rattle.profile_files.specs.declared.fault.ReadFault.TheVariants as read
-use Rattle.profile_files.proofs.ReadingLemmas.{events_read}
+use Rattle.profile_cli.proofs.Others.{events_read, IsPartText, events_agree, none_over}
 use Rattle.profile_run.specs.Program.{CanRun, Program, head_of_run}
 use Rattle.profile_run.specs.Parts.{ArePartsOf, Writing}
 use Rattle.profile_run.specs.Runs.{Does, RunEnd}
 use Rattle.profile_run.specs.Trace.{IsTraceOf, Makes, Stop, RunStep, next_step, pieces, start, steps_of}
 use Rattle.profile_run.specs.declared.run_fault.RunFault.{RunFault}
 use Rattle.reads_back.specs.Joined.{events_in}
-use Rattle.reads_back.proofs.AllPartsLemmas.{IsPartText, events_agree}
 use Rattle.reads_back.proofs.JoinedLemmas.{longer_same}
 use Rattle.run_laws.specs.OwnParts.{texts_of_files, with_their_lengths}
-use Rattle.run_laws.proofs.CostLemmas.{none_over}
 use Rattle.report_laws.specs.Exact.{parts_wanted}
 use Rattle.report_laws.proofs.ExactLemmas.{same_parts}
 use Rattle.report_laws.specs.Rows.{AreEntriesSmall}

@@ -22,11 +22,10 @@ use Rattle.profile_cli.specs.ExactDemo.{IsExactDemo}
 use Rattle.command_steps.specs.Gates.{Outcome, check, outcome, gates_outcome}
 use Rattle.profile_cli.specs.Order.{behind_demo, fault_status, run_gate, work}
 use Rattle.profile_cli.specs.Reply.{Replies}
-use Rattle.command_steps.proofs.AnswerLemmas.{before_line, calm_before, never_wanting, line_is_written}
+use Rattle.profile_cli.proofs.Others.{before_line, calm_before, never_wanting, line_is_written, more_taken, rose_from}
 use Rattle.profile_cli.proofs.AnswerLemmas.{only_wants}
 use Rattle.profile_cli.proofs.DemoPages.{demo_arguments, demo_pages}
 use Rattle.profile_cli.proofs.PastDemoLemmas.{demo_on}
-use Rattle.profile_run.proofs.RefusalLemmas.{more_taken, rose_from}
 use Rattle.byte_text.specs.Memory.{memory}
 
 -- what the work comes to where the words were read

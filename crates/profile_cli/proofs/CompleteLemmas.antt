@@ -41,7 +41,8 @@ use Rattle.command_steps.specs.Saying.{Says, after_line}
 use Rattle.profile_cli.specs.Watching.{output_asked, parts_asked, watch_gates}
 use Rattle.profile_cli.specs.Words.{program_of}
 use Rattle.std.specs.List.{AllByRecursion}
-use Rattle.command_steps.proofs.AnswerLemmas.{IsRefusal, before_line, calm_before, never_wanting, line_is_written, stays}
+use Rattle.profile_cli.proofs.Others.{IsRefusal, before_line, calm_before, never_wanting, line_is_written, stays}
+use Rattle.profile_cli.proofs.Others.{more_taken, rose_from}
 use Rattle.profile_cli.proofs.AnswerLemmas.{only_wants}
 use Rattle.profile_cli.proofs.CompleteDemoLemmas.{certain_demo}
 use Rattle.command_steps.proofs.CompleteReportLemmas.{certain_report}
@@ -50,7 +51,6 @@ use Rattle.profile_cli.proofs.PastRunLemmas.{IsWorked, exact_of, run_on}
 use Rattle.profile_cli.proofs.EveryRunLemmas.{IsWhole, ran_on}
 use Rattle.profile_cli.proofs.WorkLemmas.{by_loading}
 use Rattle.std.proofs.lemmas.List.{append-nil}
-use Rattle.profile_run.proofs.RefusalLemmas.{more_taken, rose_from}
 use Rattle.byte_text.specs.Memory.{memory}
 
 -- the input is what the folder holds, where it has a name, or memory was wanting

@@ -16,7 +16,7 @@ use Rattle.profile_files.specs.Joined.{no_rows}
 use Rattle.profile_files.specs.Reading.{IsReading}
 use Rattle.profile_files.specs.declared.fault.ReadFault.{ReadFault}
 use Rattle.profile_files.specs.declared.fault.ReadFault.TheVariants as read
-use Rattle.profile_files.proofs.ReadingLemmas.{IsReading-wanting, IsReading-within}
+use Rattle.profile_cli.proofs.Others.{IsReading-wanting, IsReading-within}
 use Rattle.profile_run.specs.Program.{Program}
 use Rattle.profile_run.specs.Parts.{Writing, plain_parts}
 use Rattle.profile_run.specs.Runs.{RunEnd, Runs}

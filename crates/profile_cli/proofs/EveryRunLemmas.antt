@@ -13,7 +13,7 @@ use Rattle.profile_run.specs.Program.{Program, CanRun}
 use Rattle.profile_run.specs.Runs.{RunEnd, Runs}
 use Rattle.profile_run.specs.Trace.{IsTraceOf, Makes, Stop, RunStep, steps_of}
 use Rattle.profile_run.specs.declared.run_fault.RunFault.{RunFault}
-use Rattle.run_laws.proofs.EventLemmas.{have_stacks}
+use Rattle.profile_cli.proofs.Others.{have_stacks}
 use Rattle.run_laws.proofs.OwnRowLemmas.{own_last}
 use Rattle.command_status.specs.Ends.{end_status}
 use Rattle.command_status.specs.declared.status.Status.{Status}

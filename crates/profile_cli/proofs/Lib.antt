@@ -1,3 +1,4 @@
+mod Others
 pub use Rattle.command_steps.proofs.OutsideLemmas
 mod GateLemmas
 mod LoadLemmas

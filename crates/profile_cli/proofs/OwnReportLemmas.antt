@@ -14,7 +14,7 @@ use Rattle.cg_read.specs.Profiles.{Contents, IsProfile}
 use Rattle.profile_files.specs.Joined.{no_rows}
 use Rattle.profile_files.specs.Reading.{IsReading}
 use Rattle.profile_files.specs.declared.fault.ReadFault.{ReadFault}
-use Rattle.profile_files.proofs.ReadingLemmas.{IsReading-within}
+use Rattle.profile_cli.proofs.Others.{IsReading-within, texts_within, more_taken, rose_from}
 use Rattle.profile_run.specs.Runs.{RunEnd}
 use Rattle.profile_run.specs.declared.run_end.PartFile.{PartFile}
 use Rattle.report_laws.specs.Exact.{parts_wanted}
@@ -37,9 +37,7 @@ use Rattle.command_steps.specs.ReportStages.{HasEvents, ReadsFiles, ShowsReport,
 use Rattle.profile_cli.specs.inner.RunStages.{IsAny, RanToEnd, end_result}
 use Rattle.profile_cli.proofs.LoadLemmas.{IsLoadIf-within}
 use Rattle.profile_cli.proofs.OutsideLemmas.{Leaves-nothing}
-use Rattle.command_steps.proofs.ReportLemmas.{texts_within}
 use Rattle.profile_cli.proofs.WorkLemmas.{guest_with, met_to_end, past_run, whole_refused}
-use Rattle.profile_run.proofs.RefusalLemmas.{more_taken, rose_from}
 
 -- what is left after something was put out, and then something that is no file
 pub Leaves-then : (old mid new : Outside) (output next : Output) → output.refused ≡ None → next.files ≡ []

@@ -8,14 +8,12 @@ use Rattle.profile_run.specs.Program.{Program, head_of_run, CanRun}
 use Rattle.profile_run.specs.Parts.{Writing, plain_parts}
 use Rattle.profile_run.specs.Trace.{Makes, Stop, RunStep, steps_of}
 use Rattle.reads_back.specs.Joined.{no_rows_of}
-use Rattle.reads_back.proofs.AllPartsLemmas.{IsPartText, each_text}
+use Rattle.profile_cli.proofs.Others.{IsPartText, each_text, joined_is, joined_stands, texts_again}
 use Rattle.run_laws.specs.OwnParts.{texts_of_files}
 use Rattle.run_laws.specs.Runs.{parts_written}
-use Rattle.run_laws.proofs.OwnPartLemmas.{joined_is}
 use Rattle.run_laws.proofs.PartLemmas.{are_parts, texts_same}
 use Rattle.run_laws.specs.Addresses.{addr_parts}
 use Rattle.report_laws.specs.Rows.{AreEntriesSmall}
-use Rattle.report_laws.proofs.AddrOwnLemmas.{joined_stands, texts_again}
 use Rattle.command_words.specs.Request.{Addresses, Contexts, Nothing, Waits, Watching}
 use Rattle.command_words.specs.Within.{IsOfReport}
 use Rattle.profile_cli.specs.Watching.{parts_asked}

@@ -35,8 +35,7 @@ use Rattle.reads_back.specs.Joined.{no_rows_of}
 use Rattle.run_laws.specs.OwnParts.{IsOwnFault, files_of_run, with_their_lengths}
 use Rattle.run_laws.specs.Profiles.{IsProfileOfRun}
 use Rattle.run_laws.specs.Runs.{events_with_stacks}
-use Rattle.run_laws.proofs.CostLemmas.{none_over, total_is}
-use Rattle.run_laws.proofs.OwnPartLemmas.{read_is_run, refused_is_own}
+use Rattle.profile_cli.proofs.Others.{none_over, total_is, read_is_run, refused_is_own}
 use Rattle.report_laws.specs.Exact.{parts_wanted}
 use Rattle.report_laws.proofs.ExactLemmas.{same_parts}
 use Rattle.command_status.specs.Ends.{end_status}

@@ -30,7 +30,7 @@ use Rattle.profile_run.specs.Trace.{Makes, sent_bytes, steps_of}
 use Rattle.profile_run.specs.declared.run_fault.RunFault.{RunFault}
 use Rattle.reads_back.specs.Joined.{no_rows_of}
 use Rattle.run_laws.specs.OwnParts.{IsOwnFault, with_their_lengths}
-use Rattle.run_laws.proofs.CostLemmas.{none_over}
+use Rattle.profile_cli.proofs.Others.{none_over, more_taken}
 use Rattle.report_laws.specs.Exact.{parts_wanted}
 use Rattle.report_laws.proofs.ExactLemmas.{same_parts}
 use Rattle.command_status.specs.Ends.{end_status}
@@ -56,7 +56,6 @@ use Rattle.profile_cli.specs.Watching.{parts_asked}
 use Rattle.profile_cli.specs.Words.{program_of}
 use Rattle.profile_cli.proofs.ReadBackLemmas.{CanBeReadBack, IsReadAs, entries_small, none_first, own_files}
 use Rattle.profile_cli.proofs.ReadBackLemmas.{report_on, own_read, texts_over}
-use Rattle.profile_run.proofs.RefusalLemmas.{more_taken}
 use Rattle.byte_text.specs.Memory.{memory}
 
 -- ---- gates behind the run put nothing

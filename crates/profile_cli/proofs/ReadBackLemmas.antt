@@ -21,11 +21,10 @@ use Rattle.profile_run.specs.Trace.{Makes, Stop, RunStep, steps_of}
 use Rattle.reads_back.specs.Joined.{no_rows_of}
 use Rattle.run_laws.specs.OwnParts.{IsOwnFault, with_their_lengths}
 use Rattle.run_laws.specs.Profiles.{IsProfileOfRun}
-use Rattle.run_laws.proofs.OwnPartLemmas.{read_is_run, refused_is_own}
+use Rattle.profile_cli.proofs.Others.{read_is_run, refused_is_own, read_stands}
 use Rattle.run_laws.specs.Addresses.{addr_parts}
 use Rattle.report_laws.specs.Rows.{AreEntriesSmall}
 use Rattle.report_laws.proofs.AddrOwnLemmas as addresses
-use Rattle.report_laws.proofs.AddrOwnLemmas.{read_stands}
 use Rattle.report_laws.proofs.ReportLemmas.{report_of_run}
 use Rattle.command_words.specs.Request.{Addresses, Contexts, Nothing, View, Waits, Watching}
 use Rattle.command_words.specs.Within.{IsOfReport}

@@ -19,7 +19,7 @@ use Rattle.run_watches.specs.Laws.{IsOfKind}
 use Rattle.run_watches.specs.Watching.{IsFresh, watching}
 use Rattle.run_watches.specs.declared.run_watch.RunWatch.{RunWatch}
 use Rattle.run_watches.specs.declared.run_watch.RunWatch.TheVariants.{Addresses, Contexts, Nobody, Waits}
-use Rattle.run_watches.proofs.KindLemmas.{addresses_are, contexts_are, nobody_is, waits_are}
+use Rattle.profile_cli.proofs.Others.{addresses_are, contexts_are, nobody_is, waits_are}
 use Rattle.command_status.specs.declared.status.Status.{Status}
 use Rattle.command_words.specs.Request as words
 use Rattle.command_words.specs.Request.{Job, Watching}

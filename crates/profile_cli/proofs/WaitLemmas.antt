@@ -32,7 +32,7 @@ use Rattle.profile_run.proofs.CallLemmas.{calls_whole}
 use Rattle.profile_run.proofs.PutLemmas.{with-append}
 use Rattle.part_dump.proofs.WatchLemmas.{steps-append}
 use Rattle.once_each.specs.Runs.{AreOrderlyAfter}
-use Rattle.run_laws.proofs.EventLemmas.{orderly, small_numbers}
+use Rattle.profile_cli.proofs.Others.{orderly, small_numbers}
 use Rattle.wait_report.specs.Keeping.{WaitBooks, WaitState, watching}
 use Rattle.wait_report.specs.Keeping as keeping
 use Rattle.wait_report.specs.Standing.{HaveSums, MayAllFollow, StandsFor}

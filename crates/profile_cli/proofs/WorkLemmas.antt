@@ -25,7 +25,7 @@ use Rattle.profile_files.specs.Loads.{IsLoad}
 use Rattle.outside.specs.Load.{Load, bytes_of}
 use Rattle.profile_files.specs.Joined.{no_rows}
 use Rattle.profile_files.specs.declared.fault.ReadFault.TheVariants as read
-use Rattle.profile_files.proofs.ReadingLemmas.{IsReading-wanting}
+use Rattle.profile_cli.proofs.Others.{IsReading-wanting}
 use Rattle.profile_cli.specs.Course.{Course, RunOutcome, no_course}
 use Rattle.command_steps.specs.Loading.{IsLoadIf, HasStatus, input_fault, input_limit, load_fault, LoadsFile}
 use Rattle.command_steps.specs.Loading.{LoadsInput}

@@ -9,12 +9,11 @@ use Rattle.shadow_stack.specs.Frames.{stack}
 use Rattle.shadow_stack.specs.Stacks.{Stack}
 use Rattle.shadow_stack.specs.Traces.{EventOnStack, stack_of}
 use Rattle.part_dump.specs.Steps.{Step, event_of, steps_of_thread, events_of_thread, events_on_stack_of, stack_at, thread_of}
-use Rattle.part_dump.proofs.StepLemmas.{events-push, length-push, own-other, seen-push, stack-push}
+use Rattle.profile_run.proofs.Others.{events-push, length-push, own-other, seen-push, stack-push, same_thread}
+use Rattle.profile_run.proofs.Others.{within_later}
 use Rattle.recorder.specs.Accounts.{Account, Recording, account, knows}
 use Rattle.recorder.specs.Bounds.{SumsWithin}
 use Rattle.recorder.specs.Standing.{Stands}
-use Rattle.recorder.proofs.RecordingLemmas.{same_thread}
-use Rattle.recorder.proofs.ThreadBounds.{within_later}
 use Rattle.profile_run.specs.inner.Standing.{AreAccounts, HasAccount, IsNote}
 
 pub true_false : true ≡ false → ⊥

@@ -30,10 +30,9 @@ use Rattle.profile_run.specs.declared.parts.Parts.{Parts}
 use Rattle.profile_run.specs.declared.running.Order.{Order}
 use Rattle.profile_run.specs.declared.run_fault.RunFault.{RunFault}
 use Rattle.profile_run.specs.declared.run_fault.RunFault.TheVariants.{OutOfMemory}
-use Rattle.part_dump.proofs.StepLemmas.{length-push}
+use Rattle.profile_run.proofs.Others.{length-push, none_of}
 use Rattle.profile_run.proofs.OutputLemmas.{pieces-push, still_sent, wrote_on}
 use Rattle.profile_run.proofs.BeginLemmas.{begun, or_none, some_room}
-use Rattle.recorder.proofs.ListLemmas.{none_of}
 use Rattle.profile_run.proofs.EndLemmas.{ended_is}
 use Rattle.profile_run.proofs.EndingLemmas.{not_over, over_before, over_tried, steps_are}
 use Rattle.profile_run.proofs.RefusalLemmas.{grown, more_taken, no_memory, put_failed, sent-push, leads_on, write_failed}

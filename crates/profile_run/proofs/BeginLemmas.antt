@@ -21,8 +21,8 @@ use Rattle.recorder.specs.Accounts as books
 use Rattle.recorder.specs.Bounds.{SumsWithin}
 use Rattle.recorder.specs.Notes.{first_account}
 use Rattle.recorder.specs.Standing.{Stands}
-use Rattle.recorder.proofs.BoundLemmas.{within_started}
-use Rattle.recorder.proofs.StandingLemmas.{stands_started}
+use Rattle.profile_run.proofs.Others.{within_started, stands_started, own-append, same_stack, steps-append}
+use Rattle.profile_run.proofs.Others.{watched_more, same_thread, within_later}
 use Rattle.part_dump.specs.Calls.{Call, Readies}
 use Rattle.part_dump.specs.Cuts.{cuts}
 use Rattle.part_dump.specs.Steps.{Step, event_of, live, steps_of_thread, events_on_stack_of, stack_at}
@@ -34,13 +34,9 @@ use Rattle.profile_run.specs.Trace.{RunStep, end_before, exit_end, frames_end, w
 use Rattle.profile_run.specs.Trace.{steps_of}
 use Rattle.profile_run.specs.inner.Standing.{AreAccounts, Begins, HasAccount, HasBegun, HaveStepped, IsAfter, IsWatched}
 use Rattle.profile_run.specs.inner.Standing.{Prepares}
-use Rattle.part_dump.proofs.StepLemmas.{own-append, same_stack}
 use Rattle.profile_run.proofs.AccountLemmas.{true_false}
 use Rattle.profile_run.proofs.CallLemmas.{after-append}
-use Rattle.part_dump.proofs.WatchLemmas.{steps-append, watched_more}
 use Rattle.shadow_stack.proofs.ChainLemmas.{true_of_or}
-use Rattle.recorder.proofs.RecordingLemmas.{same_thread}
-use Rattle.recorder.proofs.ThreadBounds.{within_later}
 
 -- ---- no end stands before the step
 

@@ -14,7 +14,7 @@ use Rattle.part_dump.specs.Calls.{tried_calls}
 use Rattle.part_dump.specs.Cuts.{Split, cut_after, cuts, most_cuts, with_last}
 use Rattle.part_dump.specs.Steps.{Step}
 use Rattle.part_dump.specs.Watching.{Meaning, after_call, after_calls, puts, put_of}
-use Rattle.part_dump.proofs.CutLemmas.{cuts_push}
+use Rattle.profile_run.proofs.Others.{cuts_push}
 use Rattle.sym_map.specs.SymbolMap.{SymbolMap}
 use Rattle.profile_run.specs.Program.{Program, head_of_run}
 use Rattle.profile_run.specs.Parts.{calls_of, calls_so_far}

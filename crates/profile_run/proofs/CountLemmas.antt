@@ -9,7 +9,9 @@ use Rattle.std.proofs.lemmas.List.{length-map, map-append}
 use Rattle.std.proofs.lemmas.List.Folds.{fold-map}
 use Rattle.event_costs.specs.Costs.{IsWhole, sum_of_costs}
 use Rattle.event_costs.specs.Runs.{Run}
-use Rattle.event_costs.proofs.RunLemmas.{Run-push}
+use Rattle.profile_run.proofs.Others.{Run-push, Holds, goes_where, holds_next, holds_reached, events-push}
+use Rattle.profile_run.proofs.Others.{length-push, own-other, own-push, stack-push, live_push, last-push}
+use Rattle.profile_run.proofs.Others.{steps-append, watched_more, from_append}
 use Rattle.event_costs.specs.declared.event.Event.{Event}
 use Rattle.event_costs.specs.declared.event.Touch.{Touch}
 use Rattle.event_costs.specs.declared.event.Touch.TheVariants as touch
@@ -36,22 +38,17 @@ use Rattle.guest_sched.proofs.RunLemmas.{made_push}
 use Rattle.guest_sched.specs.Laws.{InOrder, IsReached}
 use Rattle.guest_sched.specs.Machine.{Machine, new_machine, next}
 use Rattle.guest_sched.specs.Step.{MachineStep}
-use Rattle.guest_sched.proofs.OrderLemmas.{Holds, goes_where, holds_next, holds_reached}
 use Rattle.part_dump.specs.Calls.{Call, Readies, Sees, step_calls}
 use Rattle.part_dump.specs.Cuts.{cuts}
 use Rattle.part_dump.specs.Rules.{IsNotedOf}
 use Rattle.part_dump.specs.Steps.{Step, event_of, frames_in, live, steps_of_thread, events_of_thread, stack_at, thread_of}
 use Rattle.part_dump.specs.Watched.{Fits, Follows, IsOrderly, last_of, AreWatched, steps_in}
 use Rattle.part_dump.specs.Watching.{Can, Meaning, after_call, after_calls}
-use Rattle.part_dump.proofs.StepLemmas.{events-push, length-push, own-other, own-push, stack-push}
-use Rattle.part_dump.proofs.LiveLemmas.{live_push}
-use Rattle.part_dump.proofs.WatchLemmas.{last-push, steps-append, watched_more}
 use Rattle.recorder.specs.Accounts.{Account, IsReady, Recording, account, knows, live_in}
 use Rattle.recorder.specs.Accounts as books
 use Rattle.recorder.specs.Laws.{IsIn}
 use Rattle.recorder.specs.Notes.{CanNote, NeedsNoRoom, account_after_note, noted_answer}
 use Rattle.recorder.proofs.BoundLemmas as noting
-use Rattle.recorder.proofs.ListLemmas.{from_append}
 use Rattle.recorder.proofs.TopLaws.{top_follows}
 use Rattle.profile_run.specs.Program.{Program}
 use Rattle.profile_run.specs.Parts.{calls_so_far}

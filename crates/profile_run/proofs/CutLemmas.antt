@@ -19,8 +19,7 @@ use Rattle.profile_run.specs.Program.{Program}
 use Rattle.profile_run.specs.Parts.{calls_so_far}
 use Rattle.profile_run.specs.Trace.{RunStep, steps_of}
 use Rattle.profile_run.specs.inner.Standing.{IsAfter, IsUncut, IsWatched, StandsAfter, files_at}
-use Rattle.part_dump.proofs.StepLemmas.{own-append, own-push}
-use Rattle.part_dump.proofs.WatchLemmas.{readied-append}
+use Rattle.profile_run.proofs.Others.{own-append, own-push, readied-append}
 use Rattle.profile_run.proofs.CallLemmas.{calls_uncut, cut_at, cuts_of, cuts_uncut, may_cut, puts-append}
 
 some_pushed : (xs : List Step) (x : Step) → xs ++ x ∷ [] ≢ []

@@ -31,9 +31,7 @@ use Rattle.profile_run.specs.inner.Standing.{HasAccount, IsHead, IsPutting, IsUn
 use Rattle.profile_run.specs.inner.Standing.{calls_below}
 use Rattle.profile_run.specs.inner.Standing.{HaveStepped, IsAfter, IsCutAt, StandsAfter, all_calls, files_after}
 use Rattle.profile_run.specs.inner.Standing.{files_at, since_of}
-use Rattle.part_dump.proofs.StepLemmas.{own-append}
-use Rattle.part_dump.proofs.WatchLemmas.{readied-append, readied-from}
-use Rattle.recorder.proofs.ListLemmas.{in_right}
+use Rattle.profile_run.proofs.Others.{own-append, readied-append, readied-from, in_right}
 use Rattle.profile_run.proofs.CallLemmas.{calls_cut, cut_at, cuts_cut, cuts_of, may_cut, puts-append}
 use Rattle.profile_run.proofs.CutLemmas.{files_step, quiet_step}
 use Rattle.profile_run.proofs.PutLemmas.{below-all, below-next, no_calls}

@@ -17,7 +17,7 @@ use Rattle.part_dump.specs.Cuts.{cut_after, cuts, most_cuts}
 use Rattle.part_dump.specs.Rules.{IsNotedOf}
 use Rattle.part_dump.specs.Steps.{Step}
 use Rattle.part_dump.specs.Watching.{Meaning, after_calls, puts}
-use Rattle.part_dump.proofs.StepLemmas.{length-push}
+use Rattle.profile_run.proofs.Others.{length-push}
 use Rattle.recorder.specs.Accounts.{Recording, knows}
 use Rattle.recorder.specs.Accounts as books
 use Rattle.recorder.specs.inner.Known.{KnowsPlaces}

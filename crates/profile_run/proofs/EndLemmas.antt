@@ -12,7 +12,7 @@ use Rattle.guest_sched.specs.Engine.{first_of}
 use Rattle.shadow_stack.specs.Stacks.{most_frames}
 use Rattle.profile_run.specs.Trace.{exit_end, frames_end, waiting_end, or_else, budget_end}
 use Rattle.profile_run.specs.inner.Standing.{is_exit}
-use Rattle.part_dump.proofs.StepLemmas.{is_not}
+use Rattle.profile_run.proofs.Others.{is_not}
 
 pub ended_is : (m : Machine) → m.given ≡ None → ended m ≡ known_end m.engine.exit (first_of m.engine.run_queue.ready)
 unfolding ended

@@ -6,7 +6,7 @@ use Rattle.std.specs.Prelude.{if◌then◌else◌}
 use Rattle.std.proofs.lemmas.Bool.Decides.{nat_tests}
 use Rattle.std.proofs.lemmas.List.{append-nil, length-map}
 use Rattle.outside.specs.Outside.{Shelf}
-use Rattle.event_costs.proofs.RunLemmas.{IsTrace-same}
+use Rattle.profile_run.proofs.Others.{IsTrace-same, holds_reached, tried_end, own-append, in_right}
 use Rattle.event_costs.specs.declared.numbers.ThreadNo.{ThreadNo}
 use Rattle.event_costs.specs.declared.outcome.End.{End}
 use Rattle.event_costs.specs.declared.outcome.End.TheVariants.{Exited, Killed, UnsupportedInstr, UnsupportedCall, Budget}
@@ -19,7 +19,6 @@ use Rattle.guest_load.specs.First.{guest_at_start}
 use Rattle.guest_sched.specs.Laws.{IsReached, IsTried}
 use Rattle.guest_sched.specs.Machine.{Machine, ended, next, running, running_unless, with_given}
 use Rattle.guest_sched.specs.Engine.{Engine}
-use Rattle.guest_sched.proofs.OrderLemmas.{holds_reached, tried_end}
 use Rattle.recorder.specs.Accounts.{Recording, account}
 use Rattle.recorder.specs.Laws.{IsIn}
 use Rattle.recorder.specs.Standing.{Stands}
@@ -33,8 +32,6 @@ use Rattle.profile_run.specs.Trace.{IsTraceOf, Stop, RunStep, end_before, next_s
 use Rattle.profile_run.specs.inner.Standing.{HasBegun, IsHead, IsOver, IsPutting, IsWatched, Plan}
 use Rattle.profile_run.specs.inner.Standing.{StandsAfter}
 use Rattle.profile_run.specs.inner.Standing.{all_calls, calls_below, files_after, files_at, since_of, machine_step_of}
-use Rattle.part_dump.proofs.StepLemmas.{own-append}
-use Rattle.recorder.proofs.ListLemmas.{in_right}
 use Rattle.profile_run.proofs.CallLemmas.{calls_whole, puts-append, tried_puts}
 use Rattle.profile_run.proofs.PutLemmas.{below-all, below-next, no_calls}
 use Rattle.profile_run.proofs.PuttingLemmas.{none_left}

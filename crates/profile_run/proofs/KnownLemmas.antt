@@ -16,10 +16,9 @@ use Rattle.cg_format.specs.Part.{AreKnown, IsKnownArc, IsKnownLine}
 use Rattle.recorder.specs.Laws.{IsIn}
 use Rattle.recorder.specs.Rows.{arc_at, arcs, arcs_at, arcs_of, line_at, places, rows_of}
 use Rattle.recorder.specs.inner.Known.{KnowsPlaces}
-use Rattle.recorder.proofs.ArcRowLemmas.{arc_only, arc_total}
+use Rattle.profile_run.proofs.Others.{arc_only, arc_total, AreKnownIn, IsKnownKey, pushed_known, all_of, from_append}
+use Rattle.profile_run.proofs.Others.{from_flat, from_map, in_filter}
 use Rattle.recorder.proofs.LineLemmas.{place_only, place_total}
-use Rattle.recorder.proofs.KnownLemmas.{AreKnownIn, IsKnownKey, pushed_known}
-use Rattle.recorder.proofs.ListLemmas.{all_of, from_append, from_flat, from_map, in_filter}
 
 module _ (syms : SymbolMap) (knows : KnowsPlaces syms) (xs : List EventOnStack)
     (stacks : (x : EventOnStack) → IsIn xs x → AreKnownIn syms knows x.stack) where

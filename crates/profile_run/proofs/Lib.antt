@@ -1,3 +1,4 @@
+mod Others
 pub mod TraceLemmas
 pub mod ToldLemmas
 pub mod CallLemmas

@@ -10,7 +10,7 @@ use Rattle.profile_run.specs.Program.{Program, first_machine}
 use Rattle.profile_run.specs.Steps.{AreOfMachine, AreTold}
 use Rattle.profile_run.specs.Trace.{Makes, Position, RunStep, end_before, exit_end, frames_end, next_step, waiting_end, or_else}
 use Rattle.profile_run.specs.Trace.{budget_end, steps_of, run_step}
-use Rattle.part_dump.proofs.StepLemmas.{length-push}
+use Rattle.profile_run.proofs.Others.{length-push}
 use Rattle.profile_run.proofs.BeginLemmas.{or_none, some_room, spare}
 use Rattle.profile_run.proofs.TraceLemmas.{going-end, going-over, going-step}
 

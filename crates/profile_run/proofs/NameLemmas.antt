@@ -9,7 +9,7 @@ use Rattle.guest_load.specs.Guest.{Guest}
 use Rattle.guest_sched.specs.Machine.{Machine, next}
 use Rattle.guest_sched.specs.Step.{MachineStep}
 use Rattle.guest_sched.proofs.MoveLemmas.{next_is, step_is}
-use Rattle.guest_sched.proofs.OrderLemmas.{Holds, holds_next, holds_reached}
+use Rattle.profile_run.proofs.Others.{Holds, holds_next, holds_reached, all_of}
 use Rattle.recorder.specs.Laws.{IsIn}
 use Rattle.part_dump.specs.Steps.{Step, thread_of}
 use Rattle.part_dump.proofs.ApartLemmas.{files_apart}
@@ -18,7 +18,6 @@ use Rattle.profile_run.specs.Parts.{plain_parts}
 use Rattle.recorder.specs.Rows.{rows_of}
 use Rattle.profile_run.specs.Steps.{AreTold}
 use Rattle.profile_run.specs.Trace.{IsTraceOf, Stop, RunStep, steps_of}
-use Rattle.recorder.proofs.ListLemmas.{all_of}
 use Rattle.profile_run.proofs.MachineLemmas.{of_machine}
 
 -- a machine makes at most 65,535 threads

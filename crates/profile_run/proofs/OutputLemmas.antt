@@ -8,7 +8,7 @@ use Rattle.outside.specs.Outside.{Outside, Stream}
 use Rattle.outside.specs.Journal.{AreWritten, TellsWrites, Wrote}
 use Rattle.outside.specs.Write.{taken_more}
 use Rattle.outside.specs.declared.sink.WriteError.{WriteError}
-use Rattle.outside.proofs.JournalLemmas.{tells_nothing_more, tells_then}
+use Rattle.profile_run.proofs.Others.{tells_nothing_more, tells_then}
 use Rattle.profile_run.specs.Trace.{RunStep, piece_to, pieces}
 use Rattle.profile_run.specs.inner.Standing.{HasSent, HasWritten, SendsAll, TakesFront}
 

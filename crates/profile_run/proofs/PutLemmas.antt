@@ -9,14 +9,13 @@ use Rattle.std.proofs.lemmas.List.Concat.{flat_map-append}
 use Rattle.outside.specs.Files.{Files, with_file}
 use Rattle.outside.specs.Outside.{Named, Shelf, puts_of, with_files}
 use Rattle.outside.specs.Journal.{Call as ToldCall, Put, TellsMore}
-use Rattle.outside.proofs.JournalLemmas.{tells_then}
+use Rattle.profile_run.proofs.Others.{tells_then, above_greatest}
 use Rattle.cg_format.specs.declared.trigger.Trigger.{Trigger}
 use Rattle.cg_format.specs.Rows.{below}
 use Rattle.part_dump.specs.Calls.{Call, thread_calls}
 use Rattle.part_dump.specs.Files.{IsNext, RefusalLeaves, part_name}
 use Rattle.part_dump.specs.Steps.{Step, greatest, steps_of_thread, events_on_stack_of}
 use Rattle.part_dump.specs.Watching.{Meaning, after_calls, puts}
-use Rattle.part_dump.proofs.LiveLemmas.{above_greatest}
 use Rattle.profile_run.specs.Runs.{AreUnput}
 use Rattle.profile_run.specs.Program.{head_of_run}
 use Rattle.profile_run.specs.Parts.{ArePartsOf}

@@ -9,7 +9,7 @@ use Rattle.outside.specs.Files.{Rose, SameBut, with_file}
 use Rattle.outside.specs.Outside.{Named, Shelf, puts_of, with_files}
 use Rattle.outside.specs.Journal.{Call as ToldCall, Put, TellsMore}
 use Rattle.outside.specs.declared.folder.PutError.TheVariants as put
-use Rattle.outside.proofs.JournalLemmas.{tells_then}
+use Rattle.profile_run.proofs.Others.{tells_then, AreWhole, rows_are, AreKnownIn, stack_known, from_map, in_filter}
 use Rattle.event_costs.specs.declared.numbers.ThreadNo.{ThreadNo}
 use Rattle.cg_format.specs.declared.trigger.Trigger.{Trigger}
 use Rattle.event_costs.specs.declared.event.Event.{Event}
@@ -31,9 +31,6 @@ use Rattle.recorder.specs.Notes.{account_after_cut}
 use Rattle.recorder.specs.Standing.{AreRowsOf, Stands}
 use Rattle.recorder.specs.Rows.{rows_of}
 use Rattle.recorder.specs.inner.Known.{KnowsPlaces}
-use Rattle.recorder.proofs.AllRowLemmas.{AreWhole, rows_are}
-use Rattle.recorder.proofs.KnownLemmas.{AreKnownIn, stack_known}
-use Rattle.recorder.proofs.ListLemmas.{from_map, in_filter}
 use Rattle.profile_run.specs.Program.{Options, head_of_run}
 use Rattle.profile_run.specs.inner.Standing.{ArePut, CanPut, HasPut, IsPutting, Plan, PutFails, PutWants, PutsThreads}
 use Rattle.profile_run.specs.inner.Standing.{RefusedBy}

@@ -14,8 +14,7 @@ use Rattle.recorder.specs.Accounts.{Account, Recording, account, ledger, knows}
 use Rattle.recorder.specs.Bounds.{SumsWithin}
 use Rattle.recorder.specs.Notes.{account_after_cut}
 use Rattle.recorder.specs.Standing.{Stands, has_some}
-use Rattle.recorder.proofs.RecordingLemmas.{ledger_unknown, same_thread}
-use Rattle.recorder.proofs.StandingLemmas.{stands_cut}
+use Rattle.profile_run.proofs.Others.{ledger_unknown, same_thread, stands_cut, own-append, steps-append, watched_more}
 use Rattle.part_dump.specs.Calls.{Writes, head_of, thread_calls}
 use Rattle.part_dump.specs.Steps.{Step, steps_of_thread, events_on_stack_of, stack_at}
 use Rattle.part_dump.specs.Watched.{Fits, AreWatched, steps_in}
@@ -23,8 +22,6 @@ use Rattle.part_dump.specs.Watching.{Meaning, after_call}
 use Rattle.profile_run.specs.Program.{head_of_run}
 use Rattle.recorder.specs.Rows.{rows_of}
 use Rattle.profile_run.specs.inner.Standing.{HasAccount, IsHead, IsPutting, IsWatched, Plan, calls_below, since_of}
-use Rattle.part_dump.proofs.StepLemmas.{own-append}
-use Rattle.part_dump.proofs.WatchLemmas.{steps-append, watched_more}
 use Rattle.profile_run.proofs.AccountLemmas.{true_false}
 use Rattle.profile_run.proofs.CallLemmas.{after-append}
 use Rattle.profile_run.proofs.PutLemmas.{below-next, no_calls}

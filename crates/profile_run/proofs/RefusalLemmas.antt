@@ -13,7 +13,7 @@ use Rattle.outside.specs.Journal.{AreWritten, AreWrittenTo, Call as ToldCall, Pu
 use Rattle.outside.specs.declared.folder.PutError.TheVariants as put
 use Rattle.outside.specs.declared.sink.WriteError.{WriteError}
 use Rattle.outside.specs.declared.sink.WriteError.TheVariants as write
-use Rattle.outside.proofs.JournalLemmas.{tells_then}
+use Rattle.profile_run.proofs.Others.{tells_then}
 use Rattle.event_costs.specs.Runs.{Run}
 use Rattle.outside.specs.Write.{taken_more}
 use Rattle.event_costs.specs.declared.numbers.ThreadNo.{ThreadNo}

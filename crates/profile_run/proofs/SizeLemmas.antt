@@ -34,7 +34,8 @@ use Rattle.part_dump.specs.Calls.{steps_calls}
 use Rattle.part_dump.specs.Calls.{thread_calls, tried_calls}
 use Rattle.part_dump.specs.Cuts.{cuts}
 use Rattle.part_dump.specs.Steps.{Step, event_of, frames_in, steps_of_thread, events_of_thread, events_on_stack_of, stack_at, thread_of, threads}
-use Rattle.part_dump.proofs.CutLemmas.{cuts_together}
+use Rattle.profile_run.proofs.Others.{cuts_together, length-push, count_is, in_flat, in_left, in_right, all_of}
+use Rattle.profile_run.proofs.Others.{from_append, from_flat, from_map, in_filter, units, pushes_one, frames_within}
 use Rattle.std.specs.Prelude.{◌==◌}
 use Rattle.profile_run.specs.Program.{Program, head_of_run}
 use Rattle.profile_run.specs.Parts.{calls_of}
@@ -43,14 +44,9 @@ use Rattle.recorder.specs.Rows.{arc_at, arcs, line_at, places, rows_of}
 use Rattle.profile_run.specs.Sizes.{FitTypes}
 use Rattle.profile_run.specs.Steps.{AreTold, IsTold}
 use Rattle.profile_run.specs.Trace.{Makes, RunStep, events_of, steps_of}
-use Rattle.part_dump.proofs.StepLemmas.{length-push}
 use Rattle.profile_run.proofs.AccountLemmas.{true_false}
-use Rattle.recorder.proofs.ArcRowLemmas.{count_is}
-use Rattle.recorder.proofs.ListLemmas.{in_flat, in_left, in_right, all_of, from_append, from_flat, from_map, in_filter}
 use Rattle.profile_run.proofs.CallLemmas.{calls_whole}
-use Rattle.recorder.proofs.BoundLemmas.{units, pushes_one}
 use Rattle.recorder.proofs.StackLemmas.{Each, stack_each}
-use Rattle.part_dump.proofs.LiveLemmas.{frames_within}
 use Rattle.profile_run.proofs.MachineLemmas.{of_machine}
 
 -- ---- the frames of an arc

@@ -7,7 +7,7 @@ use Rattle.std.proofs.lemmas.Bool.Decides.{nat_tests}
 use Rattle.std.proofs.Math.Nat.{le-min}
 use Rattle.outside.specs.Files.{Files}
 use Rattle.outside.specs.Outside.{Leaves, Named, Outside, Tells, nothing, nothing_done, shelf}
-use Rattle.outside.proofs.JournalLemmas.{tells_nothing_more}
+use Rattle.profile_run.proofs.Others.{tells_nothing_more}
 use Rattle.event_costs.specs.declared.numbers.ThreadNo.{ThreadNo}
 use Rattle.sym_map.specs.SymbolMap.{SymbolMap}
 use Rattle.cache_lru.specs.Costs.{StandForRun}

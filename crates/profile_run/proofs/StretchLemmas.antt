@@ -27,7 +27,7 @@ use Rattle.profile_run.specs.declared.running.Stretch.{Stretch}
 use Rattle.profile_run.specs.declared.running.Stretch.TheVariants.{Ends, Lasts}
 use Rattle.profile_run.proofs.AdvanceLemmas as adv
 use Rattle.part_dump.proofs.RuleLemmas.{cut_by_number}
-use Rattle.part_dump.proofs.StepLemmas.{length-push}
+use Rattle.profile_run.proofs.Others.{length-push}
 use Rattle.profile_run.proofs.CountLemmas as counts
 use Rattle.profile_run.proofs.CutStepLemmas as cut_step
 use Rattle.profile_run.proofs.EndLemmas as looked

@@ -14,11 +14,8 @@ use Rattle.cg_read.specs.Profiles.{unknown, unknown_function}
 use Rattle.cg_read.specs.declared.rows.CallRow.{CallRow}
 use Rattle.cg_read.specs.declared.rows.FuncKey.{FuncKey}
 use Rattle.cg_read.specs.declared.rows.SelfRow.{SelfRow}
-use Rattle.cg_read.proofs.CostLemmas.{padded_whole}
-use Rattle.cg_read.proofs.DraftLemmas.{each_weaker}
+use Rattle.reads_back.proofs.Others.{padded_whole, each_weaker, functions_decide, each_at}
 use Rattle.cg_read.proofs.JoinLemmas.{each_from}
-use Rattle.cg_read.proofs.MergeLemmas.{functions_decide}
-use Rattle.cg_read.proofs.ProfileLemmas.{each_at}
 use Rattle.reads_back.proofs.ExistsLemmas.{calls_fit, calls_named, number_call, number_self, selfs_fit}
 use Rattle.reads_back.proofs.ExistsLemmas.{selfs_named}
 use Rattle.reads_back.proofs.JoinedLemmas.{joined_any}

@@ -21,9 +21,7 @@ use Rattle.cg_read.specs.Profiles.{unknown_function}
 use Rattle.cg_read.specs.declared.rows.CallRow.{CallRow}
 use Rattle.cg_read.specs.declared.rows.FuncKey.{FuncKey}
 use Rattle.cg_read.specs.declared.rows.SelfRow.{SelfRow}
-use Rattle.cg_read.proofs.DraftLemmas.{each_weaker}
-use Rattle.cg_read.proofs.MergeLemmas.{functions_decide}
-use Rattle.cg_read.proofs.ProfileLemmas.{apart_names, each_at}
+use Rattle.reads_back.proofs.Others.{each_weaker, functions_decide, apart_names, each_at}
 use Rattle.reads_back.specs.Joined.{AreWhole, no_rows_of}
 use Rattle.reads_back.specs.Rows.{IsOfRows, arcs_read, lines_read}
 use Rattle.reads_back.proofs.CostLemmas.{shown_length}

@@ -25,14 +25,13 @@ use Rattle.cg_read.specs.Profiles.{Contents, NamedCall, NamedSelf, files_of, fun
 use Rattle.cg_read.specs.Profiles.{named_call_rows, named_self_rows, same_function}
 use Rattle.cg_read.specs.Reading.{Reads}
 use Rattle.cg_read.specs.declared.rows.FuncKey.{FuncKey}
-use Rattle.cg_read.proofs.MergeLemmas.{functions_decide}
+use Rattle.reads_back.proofs.Others.{functions_decide, padded_whole}
 use Rattle.once_each.specs.Texts.{Naming, named_arc, named_line}
 use Rattle.reads_back.specs.Joined.{AreOfOneRun, AreWhole, HaveOwnTexts, no_rows, no_rows_of, together}
 use Rattle.reads_back.specs.Rows.{AreWritable, IsOfRows, arcs_read, command_of, lines_read, naming}
 use Rattle.reads_back.proofs.CostLemmas.{shown_length}
 use Rattle.reads_back.proofs.PartLemmas.{only_part}
 use Rattle.std.proofs.lemmas.Bool.{or_left}
-use Rattle.cg_read.proofs.CostLemmas.{padded_whole}
 
 -- Before the first part
 

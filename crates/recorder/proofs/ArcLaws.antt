@@ -14,7 +14,7 @@ use Rattle.shadow_stack.specs.Changes.{after, change, with_pushed}
 use Rattle.shadow_stack.specs.Stacks.{Activation, root, Stack}
 use Rattle.shadow_stack.specs.Traces.{CountedEvent, first_pc, is_by, events_by, EventOnStack, events_on_stacks, event_on_stack_after, events_on_stacks_from, stack_after}
 use Rattle.shadow_stack.specs.Traces.{stack_of}
-use Rattle.shadow_stack.proofs.ChangeLemmas.{change-end, IsEnd}
+use Rattle.recorder.proofs.Others.{change-end, IsEnd}
 use Rattle.recorder.specs.Laws.{IsIn, IsPushed, pieces}
 use Rattle.recorder.specs.Sums.{arc_calls, arc_cost, entered_by, is_arc, of_thread, pushes}
 use Rattle.recorder.proofs.ListLemmas.{in_filter, in_left, in_right, some_number}

@@ -20,7 +20,7 @@ use Rattle.event_costs.specs.Order.{arc_order, same_arc}
 use Rattle.arc_costs.specs.Totals.{is_some_cost}
 use Rattle.arc_costs.specs.Rows.{ArcRow}
 use Rattle.arc_costs.specs.Keys.{by_kind}
-use Rattle.arc_costs.proofs.KindLemmas.{cost_is}
+use Rattle.recorder.proofs.Others.{cost_is}
 use Rattle.arc_costs.proofs.RiseLemmas as rise
 use Rattle.sym_map.specs.SymbolMap.{SymbolMap}
 use Rattle.shadow_stack.specs.Changes.{change}

@@ -12,7 +12,8 @@ use Rattle.event_costs.specs.declared.numbers.FuncId.{FuncId}
 use Rattle.shadow_stack.specs.Arenas.{frames, frames_in, LiesIn, Link, links, stack_at}
 use Rattle.shadow_stack.specs.declared.arena.Head.{Head}
 use Rattle.shadow_stack.specs.declared.arena.Node.{Node}
-use Rattle.shadow_stack.proofs.ChainLemmas.{links-none}
+use Rattle.recorder.proofs.Others.{links-none, arc_keys_more, cleared_keys, none_stand, same_arc_laws, sum_at-append}
+use Rattle.recorder.proofs.Others.{sum_at_one, covers_itself, StartWithin-grown, StartWithin-restarted}
 use Rattle.event_costs.specs.Arcs.{Pushed, Closed}
 use Rattle.event_costs.specs.Costs.{difference_of_costs, IsWhole, no_cost, sum_of_costs}
 use Rattle.event_costs.specs.declared.event.Event.{Event}
@@ -23,8 +24,6 @@ use Rattle.arc_costs.specs.Contents.{Contents}
 use Rattle.arc_costs.specs.Lines.{line, line_sum, LinesStandFor, place_of as row_place}
 use Rattle.event_costs.specs.Order.{same_arc, same_place}
 use Rattle.arc_costs.specs.Rows.{ArcRow, LineRow}
-use Rattle.arc_costs.proofs.ArcLemmas.{arc_keys_more, cleared_keys, none_stand, same_arc_laws}
-use Rattle.arc_costs.proofs.RowLemmas.{sum_at-append, sum_at_one}
 use Rattle.shadow_stack.specs.Stacks.{Activation, top_of}
 use Rattle.shadow_stack.specs.Changes.{drop_count}
 use Rattle.shadow_stack.specs.Frames.{closing, closings, count_pushed, dropped_frames, frames_after, kept_frames, pushed_activation, pushing}
@@ -32,7 +31,6 @@ use Rattle.shadow_stack.specs.Frames.{restarted_frames, stack, StartWithin, tell
 use Rattle.shadow_stack.specs.declared.frame.Frame.{Frame}
 use Rattle.shadow_stack.specs.declared.frame.Kind.TheVariants.{Root}
 use Rattle.event_costs.specs.declared.numbers.ThreadNo.{ThreadNo}
-use Rattle.shadow_stack.proofs.FrameLemmas.{covers_itself, StartWithin-grown, StartWithin-restarted}
 use Rattle.recorder.specs.Accounts.{Account}
 use Rattle.recorder.specs.Notes.{account_after_cut, open_sum, first_account, rows_of_tellings}
 use Rattle.recorder.specs.Sums.{entered_by, pushes}

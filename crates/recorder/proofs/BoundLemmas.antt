@@ -17,7 +17,7 @@ use Rattle.event_costs.specs.Order.{same_place}
 use Rattle.arc_costs.specs.Rows.{LineRow}
 use Rattle.arc_costs.proofs.ArcLemmas as arcs
 use Rattle.arc_costs.proofs.LineLemmas as lines
-use Rattle.arc_costs.proofs.RowLemmas.{zero_replicate}
+use Rattle.recorder.proofs.Others.{zero_replicate}
 use Rattle.recorder.specs.Accounts.{Account}
 use Rattle.recorder.specs.Bounds.{IsUnit, SumsWithin}
 use Rattle.recorder.specs.Notes.{CanNote, account_after_cut, open_sum, first_account}

@@ -23,7 +23,7 @@ use Rattle.shadow_stack.specs.Frames.{activation, closing, closings, dropped_fra
 use Rattle.shadow_stack.specs.Frames.{pushing, stack, tellings, with_frame}
 use Rattle.shadow_stack.specs.declared.frame.Frame.{Frame}
 use Rattle.shadow_stack.specs.declared.frame.Kind.{Kind}
-use Rattle.shadow_stack.proofs.ChangeLemmas.{change-end, change-rooted, drop-end, end-le, rooted-some}
+use Rattle.recorder.proofs.Others.{change-end, change-rooted, drop-end, end-le, rooted-some}
 use Rattle.shadow_stack.proofs.PlanLemmas.{stack-drop}
 use Rattle.recorder.specs.Accounts.{live_in}
 use Rattle.event_costs.specs.FuncSet.{is_among}

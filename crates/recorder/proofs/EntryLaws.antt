@@ -18,14 +18,13 @@ use Rattle.arc_costs.specs.Lines.{add_line, cleared_lines, line, plus_line, plac
 use Rattle.event_costs.specs.Order.{same_arc, same_place}
 use Rattle.arc_costs.specs.Rows.{add_row}
 use Rattle.arc_costs.specs.Rows.{ArcRow, LineRow}
-use Rattle.arc_costs.proofs.ArcLemmas.{arcs_keys, same_arc_laws}
+use Rattle.recorder.proofs.Others.{arcs_keys, same_arc_laws, StartWithin-after, StartWithin-restarted}
 use Rattle.arc_costs.proofs.LineLemmas.{same_place_laws}
 use Rattle.arc_costs.proofs.RowLemmas as rows
 use Rattle.shadow_stack.specs.Changes.{drop_count}
 use Rattle.shadow_stack.specs.Frames.{closing, closings, dropped_frames, pushed_activation, pushing, stack, StartWithin, tellings}
 use Rattle.shadow_stack.specs.Stacks.{Activation}
 use Rattle.shadow_stack.specs.declared.frame.Frame.{Frame}
-use Rattle.shadow_stack.proofs.FrameLemmas.{StartWithin-after, StartWithin-restarted}
 use Rattle.recorder.specs.Accounts.{account, Account, ledger, ledger_in, Ledger, nobody, Recording}
 use Rattle.recorder.specs.Entries.{account_after, account_of, Begins, Cuts, Entry}
 use Rattle.recorder.specs.Entries.{HasWholeCost, HaveWholeCosts, History}

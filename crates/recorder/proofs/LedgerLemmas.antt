@@ -17,7 +17,7 @@ use Rattle.shadow_stack.specs.Arenas.{AreApart, frames, frames_in, is_in, is_in_
 use Rattle.shadow_stack.specs.Arenas.{Link, links, StillLies}
 use Rattle.shadow_stack.specs.declared.arena.Head.{Head}
 use Rattle.shadow_stack.specs.declared.arena.Node.{Node}
-use Rattle.shadow_stack.proofs.ChainLemmas.{ChangesChainOnly-refl, leaves_others}
+use Rattle.recorder.proofs.Others.{ChangesChainOnly-refl, leaves_others}
 use Rattle.arc_costs.specs.Contents.{Contents}
 use Rattle.arc_costs.specs.Rows.{ArcRow, LineRow}
 use Rattle.recorder.specs.Accounts.{account, Account, is_ledger_of, ledger_in, Ledger, knows, live, live_in, nobody, Recording}

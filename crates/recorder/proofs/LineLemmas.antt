@@ -22,7 +22,7 @@ use Rattle.event_costs.specs.Order.{place_order, same_place}
 use Rattle.arc_costs.specs.Totals.{is_some_cost}
 use Rattle.arc_costs.specs.Rows.{LineRow}
 use Rattle.arc_costs.specs.Keys.{by_kind}
-use Rattle.arc_costs.proofs.KindLemmas.{by_kind_at, cost_is}
+use Rattle.recorder.proofs.Others.{by_kind_at, cost_is}
 use Rattle.arc_costs.proofs.RiseLemmas as rise
 use Rattle.sym_map.specs.SymbolMap.{SymbolMap, place_of}
 use Rattle.shadow_stack.specs.Traces.{EventOnStack}

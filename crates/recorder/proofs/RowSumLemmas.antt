@@ -21,7 +21,7 @@ use Rattle.arc_costs.specs.Rows as rows
 use Rattle.arc_costs.specs.Totals.{is_some_cost}
 use Rattle.arc_costs.specs.Rows.{ArcRow, LineRow}
 use Rattle.arc_costs.specs.Keys.{by_kind}
-use Rattle.arc_costs.proofs.KindLemmas.{by_kind_all}
+use Rattle.recorder.proofs.Others.{by_kind_all}
 use Rattle.arc_costs.proofs.RiseLemmas as rise
 use Rattle.sym_map.specs.SymbolMap.{SymbolMap, place_of}
 use Rattle.shadow_stack.specs.Traces.{EventOnStack}

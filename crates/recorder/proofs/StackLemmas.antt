@@ -12,7 +12,7 @@ use Rattle.shadow_stack.specs.Kinds.{is_root}
 use Rattle.shadow_stack.specs.Stacks.{Activation, Stack, root}
 use Rattle.shadow_stack.specs.Traces.{first_pc, stack_after, stack_of}
 use Rattle.shadow_stack.specs.declared.frame.Kind.{Kind}
-use Rattle.shadow_stack.proofs.ChangeLemmas.{change-end, IsEnd}
+use Rattle.recorder.proofs.Others.{change-end, IsEnd}
 use Rattle.recorder.specs.Laws.{IsIn}
 use Rattle.recorder.proofs.ListLemmas.{in_right}
 

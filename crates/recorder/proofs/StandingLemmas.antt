@@ -7,7 +7,7 @@ use Rattle.std.proofs.lemmas.List.{append-nil, map-append}
 use Rattle.std.proofs.lemmas.List.Sums.{fold-append, sum_by-append, sum_by-cons}
 use Rattle.event_costs.specs.Costs.{event_kinds, sum_of_costs}
 use Rattle.event_costs.specs.declared.numbers.ThreadNo.{ThreadNo}
-use Rattle.arc_costs.proofs.RowLemmas.{zero_replicate}
+use Rattle.recorder.proofs.Others.{zero_replicate, stack-frames_after}
 use Rattle.event_costs.specs.declared.event.Event.{Event}
 use Rattle.sym_map.specs.SymbolMap.{SymbolMap, place_of}
 use Rattle.shadow_stack.specs.Changes.{after, change}
@@ -15,7 +15,6 @@ use Rattle.shadow_stack.specs.Frames.{pushed_activation, restarted_frames, stack
 use Rattle.shadow_stack.specs.Stacks.{root, Stack}
 use Rattle.shadow_stack.specs.Traces.{CountedEvent, EventOnStack, stack_after}
 use Rattle.shadow_stack.specs.declared.frame.Frame.{Frame}
-use Rattle.shadow_stack.proofs.FrameLemmas.{stack-frames_after}
 use Rattle.shadow_stack.proofs.RestartLemmas.{stack-restarted}
 use Rattle.arc_costs.specs.Arcs.{cleared_arcs}
 use Rattle.arc_costs.specs.Contents.{Listed}

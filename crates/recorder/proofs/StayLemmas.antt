@@ -15,7 +15,7 @@ use Rattle.sym_map.specs.SymbolMap.{SymbolMap}
 use Rattle.shadow_stack.specs.declared.frame.Frame.{Frame}
 use Rattle.shadow_stack.specs.Stacks.{Activation}
 use Rattle.shadow_stack.specs.Frames.{dropped_frames, tellings}
-use Rattle.shadow_stack.proofs.StayLemmas.{Stays, none_gone, none_pushed, nothing_told}
+use Rattle.recorder.proofs.Others.{Stays, none_gone, none_pushed, nothing_told}
 use Rattle.arc_costs.specs.Contents.{Contents}
 use Rattle.arc_costs.specs.Lines.{has_line, line, line_index}
 use Rattle.event_costs.specs.Order.{same_place}

@@ -12,8 +12,7 @@ use Rattle.event_costs.specs.Keys.{ArcKey}
 use Rattle.arc_costs.specs.Arcs.{arc_of, arc_sum, call_of_arc, call_sum, cost_of_arc, has_arc}
 use Rattle.event_costs.specs.Order.{same_arc}
 use Rattle.arc_costs.specs.Rows.{ArcRow}
-use Rattle.arc_costs.proofs.ArcLemmas.{same_arc_laws}
-use Rattle.arc_costs.proofs.RowLemmas.{number_of_sum, sum_at_one, zero_replicate}
+use Rattle.recorder.proofs.Others.{same_arc_laws, number_of_sum, sum_at_one, zero_replicate}
 use Rattle.shadow_stack.specs.Frames.{activation, closing, closings, count_pushed, frame_of, pushing, restarted_frames}
 use Rattle.shadow_stack.specs.Frames.{restarted_frame, stack, StartWithin, with_frame}
 use Rattle.shadow_stack.specs.Stacks.{Activation}

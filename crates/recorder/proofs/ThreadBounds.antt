@@ -4,7 +4,7 @@ use Rattle.std.proofs.Common.{Result, Ok, Err, OnOk, OnErr, sym, ap, subst, arit
 use Rattle.std.proofs.lemmas.Bool.Decides.{eqb_tells}
 use Rattle.event_costs.specs.Costs.{event_kinds}
 use Rattle.event_costs.specs.declared.numbers.ThreadNo.{ThreadNo}
-use Rattle.arc_costs.proofs.RowLemmas.{zero_replicate}
+use Rattle.recorder.proofs.Others.{zero_replicate}
 use Rattle.recorder.specs.Accounts.{account, Account, ledger, Ledger, ledger_in, nobody, Recording}
 use Rattle.recorder.specs.Bounds.{AllWithin, SumsWithin}
 use Rattle.recorder.proofs.RecordingLemmas.{same_thread}

@@ -18,11 +18,10 @@ use Rattle.recorder.specs.Rows.{rows_of}
 use Rattle.profile_run.specs.Trace.{Makes, Stop, RunStep, steps_of}
 use Rattle.reads_back.specs.Joined.{AreOfOneRun, events_in, first_command, no_rows_of, rows_of_all}
 use Rattle.reads_back.specs.Rows.{IsOfRows}
-use Rattle.reads_back.proofs.AllPartsLemmas.{IsPartText, ReadAs, read_joined}
+use Rattle.report_laws.proofs.Others.{IsPartText, ReadAs, read_joined, AreApart, IsHeld, IsOwn, all_held, all_loaded}
+use Rattle.report_laws.proofs.Others.{names_differ, stop_is, stops_own, command_is, rows_same, map_map}
 use Rattle.run_laws.specs.OwnParts.{IsOwnFault, texts_of_files, with_their_lengths}
 use Rattle.run_laws.specs.Runs.{command_of_run, parts_written, rows_of_run}
-use Rattle.run_laws.proofs.OwnPartLemmas.{AreApart, IsHeld, IsOwn, all_held, all_loaded, names_differ, stop_is, stops_own}
-use Rattle.run_laws.proofs.PartLemmas.{command_is, rows_same}
 use Rattle.addr_rows.specs.Texts.{addr_text}
 use Rattle.run_laws.specs.Addresses.{addr_parts}
 use Rattle.report_laws.specs.Rows.{AreEntriesSmall, AreWritable}
@@ -34,7 +33,6 @@ use Rattle.report_laws.proofs.AddrOwnPartLemmas.{AddrPart, addr_files_are, apart
 use Rattle.report_laws.proofs.AddrOwnPartLemmas.{parts_by_address, plain_parts_are}
 use Rattle.report_laws.proofs.AddrOwnPartLemmas.{same_names}
 use Rattle.report_laws.proofs.SumLemmas.{HasEqualSums, all_equal, as_plain}
-use Rattle.addr_rows.proofs.FoldLemmas.{map_map}
 
 first_same : (parts : List AddrPart)
     → first_command (map as_plain parts) ≡ first_command (map (λ (p : AddrPart). p.part) parts)

@@ -21,14 +21,12 @@ use Rattle.part_dump.proofs.CutLemmas.{cuts_together}
 use Rattle.once_each.specs.Parts.{ThreadRows}
 use Rattle.once_each.specs.Written as written
 use Rattle.once_each.specs.Written.{file_of, segments_of, thread_part}
-use Rattle.once_each.proofs.WrittenLemmas.{run_files}
+use Rattle.report_laws.proofs.Others.{run_files, all_append, map_map}
 use Rattle.reads_back.specs.Joined.{WrittenPart}
 use Rattle.addr_rows.specs.Rows.{AddrListed}
 use Rattle.addr_rows.specs.Texts.{addr_text}
 use Rattle.addr_rows.specs.Files as by_address
 use Rattle.addr_rows.specs.Files.{addr_files, addr_rows_in}
-use Rattle.ctx_rows.proofs.TrackedLemmas.{all_append}
-use Rattle.addr_rows.proofs.FoldLemmas.{map_map}
 
 abbrev pub Segment : Type 0
 Segment = List Step × Trigger

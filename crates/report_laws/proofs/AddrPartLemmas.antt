@@ -46,19 +46,16 @@ use Rattle.addr_rows.specs.declared.rows.AddrArc.{AddrArc}
 use Rattle.addr_rows.specs.declared.rows.AddrLine.{AddrLine}
 use Rattle.once_each.specs.Texts.{named_arc, named_line}
 use Rattle.reads_back.specs.Rows.{FitsArc, FitsLine, IsOfRows, arcs_read, command_of, lines_read, naming}
-use Rattle.reads_back.proofs.EntryLemmas.{CanWrite, Standing, calls_of, selfs_of}
-use Rattle.reads_back.proofs.HeadingLemmas.{after_heading_at, heading_at, heading_clear, heading_read, heading_same, literal, says, says_totals}
-use Rattle.reads_back.proofs.LineLemmas.{AreClear, all_clear, history_is, lines_of_marks, split_joined, text_is, texts_of}
+use Rattle.report_laws.proofs.Others.{CanWrite, Standing, calls_of, selfs_of, after_heading_at, heading_at}
+use Rattle.report_laws.proofs.Others.{heading_clear, heading_read, heading_same, literal, says, says_totals, AreClear}
+use Rattle.report_laws.proofs.Others.{all_clear, history_is, lines_of_marks, split_joined, text_is, texts_of, Spells}
+use Rattle.report_laws.proofs.Others.{stripped_kept, all_append, map_map}
 use Rattle.reads_back.proofs.PartLemmas as parts
-use Rattle.reads_back.proofs.ShapeLemmas.{Spells}
-use Rattle.reads_back.proofs.TextLemmas.{stripped_kept}
 use Rattle.report_laws.specs.Rows.{AreEntriesSmall, AreWritable, IsOfAddrRows}
 use Rattle.report_laws.proofs.BesideLemmas.{AreFine, Beside, addr_read, first_positions_of, step_quiet}
 use Rattle.report_laws.proofs.AddrRowLemmas.{CanWriteAt, after_rows, arc_address, arc_part, arcs_written, can_write}
 use Rattle.report_laws.proofs.AddrRowLemmas.{line_address, line_part, lines_written}
 use Rattle.report_laws.proofs.SayLemmas.{is_quiet, says_alone}
-use Rattle.ctx_rows.proofs.TrackedLemmas.{all_append}
-use Rattle.addr_rows.proofs.FoldLemmas.{map_map}
 
 -- ---- lists of rows
 

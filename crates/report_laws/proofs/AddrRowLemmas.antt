@@ -24,9 +24,8 @@ use Rattle.addr_rows.specs.declared.row.AddrRow.TheVariants.{Arc, Line}
 use Rattle.addr_rows.specs.declared.rows.AddrArc.{AddrArc}
 use Rattle.addr_rows.specs.declared.rows.AddrLine.{AddrLine}
 use Rattle.reads_back.specs.Rows.{FitsArc, FitsLine}
-use Rattle.reads_back.proofs.CostLemmas.{shown_length, shown_some}
-use Rattle.reads_back.proofs.EntryLemmas.{CanWrite}
-use Rattle.reads_back.proofs.OrderLemmas.{flat_map_alike, flat_map_mapped, flat_map_twice}
+use Rattle.report_laws.proofs.Others.{shown_length, shown_some, CanWrite, flat_map_alike, flat_map_mapped}
+use Rattle.report_laws.proofs.Others.{flat_map_twice}
 use Rattle.report_laws.specs.Rows.{AreEntriesSmall}
 use Rattle.report_laws.proofs.BesideLemmas.{Beside, step_call, step_callee, step_costs, step_place}
 

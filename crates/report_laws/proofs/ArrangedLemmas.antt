@@ -11,7 +11,7 @@ use Rattle.std.proofs.lemmas.List.{get_or-map, length-map}
 use Rattle.std.proofs.lemmas.List.Elements.{recursion_from_All}
 use Rattle.std.proofs.lemmas.List.FromFn.{get_or-range_with_len, length-range_with_len}
 use Rattle.arc_costs.specs.Keys.{IsIn}
-use Rattle.arc_costs.proofs.RiseLemmas.{Rises, in-map, one_list}
+use Rattle.report_laws.proofs.Others.{Rises, in-map, one_list}
 use Rattle.ctx_rows.proofs.NamedLemmas.{in_from_contains, in_permutation}
 use Rattle.report_rows.specs.Orders.{IsArranged, numbers}
 pub use Rattle.report_rows.proofs.OrderLemmas.{all_below, numbers_below, places_differ}

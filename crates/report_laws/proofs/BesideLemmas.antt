@@ -34,9 +34,8 @@ use Rattle.cg_lines.specs.declared.name.Name.{Name}
 use Rattle.cg_lines.specs.declared.number.Number.TheVariants.{Fits}
 use Rattle.cg_lines.specs.declared.sub_position.SubPosition.TheVariants.{At}
 use Rattle.addr_rows.specs.Texts.{position}
-use Rattle.reads_back.proofs.HeadingLemmas.{says_object}
-use Rattle.reads_back.proofs.LineLemmas.{AreClear, lines_of_marks}
-use Rattle.reads_back.proofs.ShapeLemmas.{Spells, costs_read, file_line, spells_callee, spells_calls, spells_costs, spells_file, spells_function}
+use Rattle.report_laws.proofs.Others.{says_object, AreClear, lines_of_marks, Spells, costs_read, file_line}
+use Rattle.report_laws.proofs.Others.{spells_callee, spells_calls, spells_costs, spells_file, spells_function}
 use Rattle.reads_back.proofs.StandingLemmas.{file_is_name, function_is_name}
 use Rattle.report_laws.proofs.SayLemmas.{is_quiet, says_alone, says_calls, says_costs}
 

@@ -1,6 +1,6 @@
 -- Some of the parts of a run: the sums of their rows are those of their events, and so each counts once.
 use Rattle.std.proofs.Common.{◌≡◌, ℕ, zero, suc, ◌+◌, ◌*◌, ◌<◌, ◌≤◌, Bool, true, false, ◌||◌, List, [], ◌∷◌, ◌++◌, length}
-use Rattle.std.proofs.Common.{map, filter, flat_map, take, get_or, Option, Some, refl, sym, ap, subst, ◌∙◌, arith}
+use Rattle.std.proofs.Common.{map, flat_map, take, get_or, Option, Some, refl, sym, ap, subst, ◌∙◌, arith}
 use Rattle.std.proofs.Common.{if◌then◌else◌, sum_by, count_by, Contains, append_assoc}
 use Rattle.std.specs.List.{AllByRecursion, enumerate_from, list_any}
 use Rattle.std.specs.Option.{option_map_or}
@@ -17,23 +17,22 @@ use Rattle.shadow_stack.specs.Stacks.{Activation, Stack, top_of}
 use Rattle.shadow_stack.specs.Traces.{EventOnStack, events_on_stacks}
 use Rattle.arc_costs.specs.Contents.{Listed}
 use Rattle.arc_costs.specs.Rows.{ArcRow, LineRow}
-use Rattle.arc_costs.proofs.RiseLemmas.{in-map}
+use Rattle.report_laws.proofs.Others.{in-map, is_group, arcs_within, all_of, of_all, each_at, IsChain, count-cons}
+use Rattle.report_laws.proofs.Others.{number_of, on_arc, sum_by-each, sum_by-filter, sum_by-flat_map, sum_by-map}
+use Rattle.report_laws.proofs.Others.{sum_by-same, run_files, all_joined_unnamed, are_parts, all_append}
 use Rattle.call_graph.specs.Groups.{Grouping, is_member}
 use Rattle.call_graph.specs.Reach.{IsGroup, Steps}
-use Rattle.call_graph.proofs.GroupLemmas.{is_group}
 use Rattle.cg_format.specs.declared.trigger.Trigger.{Trigger}
 use Rattle.cg_read.specs.Profiles.{Contents, IsProfile}
 use Rattle.cg_read.specs.declared.rows.CallRow.{CallRow}
 use Rattle.cg_read.specs.declared.rows.SelfRow.{SelfRow}
 use Rattle.cycles.specs.Costs.{IsGroupsOf, IsInclusive, call_arcs, inclusive_cost, self_cost}
-use Rattle.cycles.proofs.CountLemmas.{arcs_within}
 use Rattle.part_dump.specs.Steps.{IsPiece, Step, events_on_stack_of, threads}
 use Rattle.profile_files.specs.Joined.{Joins, no_rows}
 use Rattle.profile_run.specs.Program.{Program, head_of_run, CanRun}
 use Rattle.profile_run.specs.Trace.{Makes, Stop, RunStep, steps_of}
 use Rattle.recorder.specs.Laws.{IsIn}
 use Rattle.recorder.specs.Rows.{rows_of}
-use Rattle.recorder.proofs.ListLemmas.{all_of, of_all}
 use Rattle.once_each.specs.Graphs.{graph}
 use Rattle.once_each.specs.Once.{once, stands}
 use Rattle.once_each.specs.Orderly.{FitsTop}
@@ -41,23 +40,17 @@ use Rattle.once_each.specs.Parts.{ThreadRows}
 use Rattle.once_each.specs.Profiles.{Numbering, call_row, self_row}
 use Rattle.once_each.specs.Texts.{Naming, numbers_in}
 use Rattle.once_each.specs.Written.{file_of, segment_parts, segments_of, thread_part}
-use Rattle.once_each.proofs.MemberLemmas.{each_at, each_from}
+use Rattle.once_each.proofs.MemberLemmas.{each_from}
 use Rattle.once_each.proofs.PartLemmas as parts
 use Rattle.once_each.proofs.PartLemmas.{cost_of}
 use Rattle.once_each.proofs.SeenLemmas.{chains}
-use Rattle.once_each.proofs.StackLemmas.{IsChain, count-cons, number_of, on_arc}
-use Rattle.once_each.proofs.SumLemmas.{sum_by-each, sum_by-filter, sum_by-flat_map, sum_by-map, sum_by-same}
-use Rattle.once_each.proofs.WrittenLemmas.{run_files}
-use Rattle.reads_back.specs.Joined.{AreOfOneRun, ArePartsOfRun, WrittenPart, rows_of_all, texts_of}
+use Rattle.reads_back.specs.Joined.{AreOfOneRun, WrittenPart, rows_of_all, texts_of}
 use Rattle.reads_back.specs.Rows.{AreWritable, naming}
-use Rattle.reads_back.proofs.AllPartsLemmas.{all_joined_unnamed}
 use Rattle.run_laws.specs.OwnParts.{files_of_run}
 use Rattle.run_laws.specs.Profiles.{number_in}
 use Rattle.run_laws.specs.Runs.{events_with_costs, part_of, parts_written, segment_written}
 use Rattle.run_laws.proofs.EventLemmas.{have_stacks, tops}
-use Rattle.run_laws.proofs.PartLemmas.{are_parts}
 use Rattle.run_laws.proofs.PieceLemmas as piece_of_run
-use Rattle.ctx_rows.proofs.TrackedLemmas.{all_append}
 use Rattle.report_laws.specs.Chosen.{IsProfileOfParts, events_chosen, file_written, parts_chosen}
 use Rattle.report_laws.proofs.AddrOwnPartLemmas.{Segment, each_flat, flat, whole_run}
 use Rattle.report_laws.proofs.NumberLemmas.{any_in, group_counts, steps_in}

@@ -16,7 +16,7 @@ use Rattle.profile_run.specs.Trace.{Makes, RunStep}
 use Rattle.profile_run.specs.declared.run_end.PartFile.{PartFile}
 use Rattle.reads_back.specs.Joined.{no_rows_of}
 use Rattle.run_laws.specs.OwnParts.{IsOwnFault, files_of_run, with_their_lengths}
-use Rattle.run_laws.proofs.OwnPartLemmas.{read_is_run, refused_is_own}
+use Rattle.report_laws.proofs.Others.{read_is_run, refused_is_own}
 use Rattle.report_laws.specs.Exact.{IsExact, own_parts, part_wanted}
 use Rattle.report_laws.proofs.ReportLemmas.{report_of_run}
 

@@ -13,7 +13,7 @@ use Rattle.cg_lines.specs.Numbers.{checked_number, numeral}
 use Rattle.cg_lines.specs.Shapes.{sub_position_of}
 use Rattle.cg_lines.specs.declared.number.Number.TheVariants.{Fits, TooLarge}
 use Rattle.cg_lines.specs.declared.sub_position.SubPosition.TheVariants.{At}
-use Rattle.reads_back.proofs.TextLemmas.{IsText, is_seen, text-append}
+use Rattle.report_laws.proofs.Others.{IsText, is_seen, text-append}
 use Rattle.std.proofs.lemmas.Bool.{and_from}
 
 -- an address as it is written

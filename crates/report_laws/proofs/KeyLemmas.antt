@@ -4,7 +4,7 @@ use Rattle.std.proofs.Common.{if◌then◌else◌}
 use Rattle.std.specs.List.{AllByRecursion, list_any}
 use Rattle.std.proofs.lemmas.List.Sums.{sum_by-cons}
 use Rattle.arc_costs.specs.Rows.{sum_at}
-use Rattle.once_each.proofs.ExchangeLemmas.{exchange, sum_where}
+use Rattle.report_laws.proofs.Others.{exchange, sum_where}
 
 module _ {K : Type 0} (same : K → K → Bool) (one : (k l : K) → same k l ≡ true → k ≡ l)
     (itself : (k : K) → same k k ≡ true) {X I : Type 0} (key : X → K) (number : I → X → ℕ) where

@@ -1,3 +1,4 @@
+mod Others
 pub mod ExactLemmas
 pub mod ReportLemmas
 pub mod KeyLemmas

@@ -7,13 +7,12 @@ use Rattle.std.proofs.lemmas.Bool.{and_from, and_parts, eq-eqb, eqb-true}
 use Rattle.sym_map.proofs.Members.{Contains-map}
 use Rattle.call_graph.specs.Reach.{IsGroup, Steps, one}
 use Rattle.call_graph.specs.declared.arc.CallArc.{CallArc}
-use Rattle.call_graph.proofs.ReachLemmas.{leads_after, leads_from_same, same_back, same_from_leads}
+use Rattle.run_laws.proofs.Others.{leads_after, leads_from_same, same_back, same_from_leads}
 use Rattle.cg_read.specs.Profiles.{Contents}
 use Rattle.cg_read.specs.declared.rows.CallRow.{CallRow}
 use Rattle.cycles.specs.Costs.{arc_of, call_arcs, inclusive_cost, self_cost}
-use Rattle.once_each.proofs.MemberLemmas.{each_from, le-sum, sum-some}
-use Rattle.once_each.proofs.StackLemmas.{Below, IsClosed, number_of}
-use Rattle.once_each.proofs.SumLemmas.{sum_by-each, sum_by-plus}
+use Rattle.once_each.proofs.MemberLemmas.{each_from}
+use Rattle.report_laws.proofs.Others.{le-sum, sum-some, Below, IsClosed, number_of, sum_by-each, sum_by-plus}
 
 -- one of them passes
 abbrev pub any_in : (ℕ → Bool) → ℕ → List ℕ → Bool
@@ -140,7 +139,7 @@ module _ {X : Type 0} (top : X → ℕ) (beneath : X → List ℕ) (cost : X →
       (passes (test found.item.caller found.item.callee) (get_or found.item.cost kind 0) found.has) in
       let caller = eqb-true found.item.caller f same.0 in
       let callee = eqb-true found.item.callee g same.1 in
-      subst (λ (arc : CallArc). Contains (call_arcs p) arc) (λ i. record { caller = caller i; callee = callee i })
+      subst (λ (arc : CallArc). Contains (call_arcs p) arc) {x = arc_of found.item} (λ i. record { caller = caller i; callee = callee i })
       (Contains-map arc_of p.call_rows found.item found.among)
 
   module _ (member : ℕ → Bool) (group : IsGroup (Steps (call_arcs p)) member) where

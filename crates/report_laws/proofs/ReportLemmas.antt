@@ -9,7 +9,7 @@ use Rattle.report_rows.specs.declared.options.ReportOptions.{ReportOptions}
 use Rattle.profile_run.specs.Program.{Program, CanRun}
 use Rattle.profile_run.specs.Trace.{Makes, RunStep}
 use Rattle.run_laws.specs.Profiles.{IsProfileOfRun, number_in}
-use Rattle.run_laws.proofs.CostLemmas.{groups_are, inclusive_is, none_over, pair_is}
+use Rattle.report_laws.proofs.Others.{groups_are, inclusive_is, none_over, pair_is}
 use Rattle.report_laws.specs.Reports.{AreGroupsOfRun, IsReportOfRun}
 
 module _ (guest : Program) (can : CanRun guest) (past : List RunStep) (makes : Makes guest past) (p : Contents)

@@ -12,8 +12,7 @@ use Rattle.arc_costs.specs.Totals.{is_some_cost}
 use Rattle.arc_costs.specs.Rows.{ArcRow, LineRow}
 use Rattle.cg_read.proofs.DraftLemmas.{each_weaker}
 use Rattle.cg_read.proofs.JoinLemmas.{each_from}
-use Rattle.once_each.proofs.ExchangeLemmas.{sum_where}
-use Rattle.once_each.proofs.KeyLemmas.{itself_arc, itself_place, one_arc, one_place}
+use Rattle.report_laws.proofs.Others.{sum_where, itself_arc, itself_place, one_arc, one_place}
 use Rattle.report_laws.specs.Sums.{AreCounted, HaveEqualSums}
 use Rattle.report_laws.proofs.KeyLemmas.{IsSome, any_same, where_same}
 

@@ -3,9 +3,8 @@ use Rattle.std.proofs.Common.{◌≡◌, ℕ, List, [], ◌∷◌, map, refl, sy
 use Rattle.std.specs.List.{AllByRecursion}
 use Rattle.event_costs.specs.Runs.{Run}
 use Rattle.call_graph.specs.Groups.{is_member}
-use Rattle.call_graph.proofs.GroupLemmas.{is_group}
+use Rattle.report_laws.proofs.Others.{is_group, arcs_within, group_is, joined_is, one_profile, rows_same}
 use Rattle.cg_read.specs.Profiles.{Contents, IsProfile}
-use Rattle.cycles.proofs.CountLemmas.{arcs_within}
 use Rattle.annotate.specs.Report.{IsReportOf, SourceTexts}
 use Rattle.report_rows.specs.declared.options.ReportOptions.{ReportOptions}
 use Rattle.part_dump.specs.Cuts.{DumpPoints}
@@ -19,9 +18,6 @@ use Rattle.run_laws.specs.Addresses.{addr_parts}
 use Rattle.run_laws.specs.OwnParts.{files_of_run, texts_of_files}
 use Rattle.run_laws.specs.Profiles.{IsProfileOfRun}
 use Rattle.run_laws.specs.Runs.{command_of_run, rows_of_run}
-use Rattle.run_laws.proofs.CostLemmas.{group_is}
-use Rattle.run_laws.proofs.OwnPartLemmas.{joined_is, one_profile}
-use Rattle.run_laws.proofs.PartLemmas.{rows_same}
 use Rattle.run_laws.proofs.SumLemmas.{arcs_sum, calls_sum, lines_sum}
 use Rattle.report_laws.specs.Reports.{IsReportOfRun, cut_at}
 use Rattle.report_laws.specs.Rows.{AreEntriesSmall}

@@ -37,9 +37,9 @@ use Rattle.recorder.specs.Sums.{self_cost}
 use Rattle.recorder.proofs.StackLemmas.{Each, pushed_each, stack_each}
 use Rattle.profile_run.specs.Trace.{Makes, RunStep, steps_of}
 use Rattle.recorder.proofs.ArcRowLemmas.{arc_only, arc_total}
-use Rattle.recorder.proofs.ListLemmas.{all_of, from_append, from_flat, from_map, in_filter, of_all}
+use Rattle.report_laws.proofs.Others.{all_of, from_append, from_flat, from_map, in_filter, of_all, itself_arc}
+use Rattle.report_laws.proofs.Others.{itself_place, first_less}
 use Rattle.recorder.proofs.LineLemmas.{place_only, place_total}
-use Rattle.once_each.proofs.KeyLemmas.{itself_arc, itself_place}
 use Rattle.ctx_rows.proofs.HoldsLemmas.{IsReached}
 use Rattle.run_laws.proofs.AddrFoldableLemmas.{IsSmallStep, pcs_small}
 use Rattle.addr_rows.specs.Known.{AreKnown}
@@ -57,7 +57,6 @@ use Rattle.addr_rows.proofs.KnownRowLemmas.{rows_known}
 use Rattle.run_laws.specs.Addresses.{MayBeFolded}
 use Rattle.run_laws.proofs.AddrFoldableLemmas as foldable
 use Rattle.reads_back.specs.Rows.{FitsArc, FitsLine}
-use Rattle.reads_back.proofs.OrderLemmas.{first_less}
 use Rattle.report_laws.specs.Sums.{AreCounted, HaveEqualSums}
 use Rattle.report_laws.specs.Rows.{AreWritable}
 use Rattle.report_laws.proofs.AddrPartLemmas.{each_filtered, each_mapped}

@@ -27,8 +27,8 @@ use Rattle.cg_lines.specs.declared.sub_position.SubPosition.{SubPosition}
 use Rattle.cg_lines.specs.declared.sub_position.SubPosition.TheVariants.{At}
 use Rattle.key_tables.specs.Same.{both_true}
 use Rattle.reads_back.proofs.NumberLemmas.{decimal_parts, number_decimal, text-decimal, words_more, words_one}
-use Rattle.reads_back.proofs.ShapeLemmas.{costs_after, costs_read, digit_begins, digit_no_blank, digit_no_place, front, place_decimal, spells_costs}
-use Rattle.reads_back.proofs.TextLemmas.{IsText, stripped_kept, text-append}
+use Rattle.report_laws.proofs.Others.{costs_after, costs_read, digit_begins, digit_no_blank, digit_no_place, front}
+use Rattle.report_laws.proofs.Others.{place_decimal, spells_costs, IsText, stripped_kept, text-append}
 use Rattle.report_laws.proofs.HexLemmas.{hex, hex_no_space, place_hex, text-hex}
 use Rattle.shadow_stack.proofs.ChainLemmas.{true_false, not_true}
 

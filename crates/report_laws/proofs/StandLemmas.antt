@@ -30,9 +30,8 @@ pub use Rattle.cg_read.proofs.MergeLemmas.{functions_decide}
 pub use Rattle.annotate.proofs.CallLemmas.{any_of_map}
 use Rattle.once_each.specs.Profiles.{Numbering, call_row, self_row}
 use Rattle.once_each.specs.Texts.{Naming, named_arc, named_line, numbers_in}
-use Rattle.once_each.proofs.SumLemmas.{sum_by-map, sum_by-none, sum_by-same}
+use Rattle.report_laws.proofs.Others.{sum_by-map, sum_by-none, sum_by-same, shown_length}
 use Rattle.reads_back.specs.Rows.{IsOfRows, arcs_read, lines_read, naming}
-use Rattle.reads_back.proofs.CostLemmas.{shown_length}
 use Rattle.report_laws.specs.Sums.{HaveEqualSums, StandsFor}
 use Rattle.report_laws.proofs.RowLemmas.{arcs_any, arcs_where, lines_any, lines_where}
 use Rattle.report_laws.proofs.TextLemmas.{SumAlike, files_same, with_rows}

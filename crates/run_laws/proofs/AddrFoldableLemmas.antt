@@ -12,9 +12,9 @@ use Rattle.shadow_stack.specs.Stacks.{is_rooted}
 use Rattle.shadow_stack.specs.Traces.{EventOnStack, stack_of}
 use Rattle.guest_sched.specs.Machine.{Machine, next}
 use Rattle.guest_sched.specs.Step.{MachineStep}
-use Rattle.guest_sched.proofs.OrderLemmas.{Holds, holds_first, holds_next}
+use Rattle.run_laws.proofs.Others.{Holds, holds_first, holds_next, events-push, own-other, stack-push, address_code}
+use Rattle.run_laws.proofs.Others.{alike_root}
 use Rattle.part_dump.specs.Steps.{Step, event_of, steps_of_thread, events_of_thread, events_on_stack_of, stack_at, thread_of, IsPiece}
-use Rattle.part_dump.proofs.StepLemmas.{events-push, own-other, stack-push}
 use Rattle.recorder.specs.Rows.{rows_of}
 use Rattle.sym_map.specs.AddressMap.{address_map}
 use Rattle.addr_rows.specs.Plain.{plain}
@@ -28,8 +28,6 @@ use Rattle.once_each.specs.Runs.{AreOrderlyAfter}
 use Rattle.run_laws.proofs.EventLemmas as run_events
 use Rattle.ctx_rows.specs.Since.{StandsOn}
 use Rattle.addr_rows.specs.Files.{addr_rows_in}
-use Rattle.addr_rows.proofs.AddressMapLemmas.{address_code}
-use Rattle.addr_rows.proofs.AlikeLemmas.{alike_root}
 use Rattle.addr_rows.proofs.FoldLemmas.{AllLocated, AreLocated, IsLocated, folded_are, listed_calls, listed_costs, listed_lines, located_after}
 use Rattle.run_laws.proofs.AnswerLemmas.{all_on, order_of}
 use Rattle.run_laws.proofs.PieceLemmas as piece_of_run

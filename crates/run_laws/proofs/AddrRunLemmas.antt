@@ -25,14 +25,12 @@ use Rattle.profile_run.specs.Trace.{IsTraceOf, Makes, Position, Stop, RunStep, e
 use Rattle.profile_run.specs.Trace.{bytes_to, waiting_end, or_else, piece_to, pieces, sent_bytes, budget_end, steps_of, run_step}
 use Rattle.profile_run.specs.declared.run_fault.RunFault.{RunFault}
 use Rattle.profile_run.specs.declared.run_fault.RunFault.TheVariants as fault
-use Rattle.profile_run.proofs.MachineLemmas.{goes_is}
+use Rattle.run_laws.proofs.Others.{goes_is, address_code, address_names, code_back}
 use Rattle.profile_run.proofs.TraceLemmas.{going-end, going-over, going-step}
 use Rattle.sym_map.specs.AddressMap.{address_map}
 use Rattle.addr_rows.specs.Files.{addr_files, closed_files}
 use Rattle.addr_rows.specs.Stacked.{AreOn, with_stacks_of, with_stack_of}
 use Rattle.addr_rows.specs.Translated.{translation}
-use Rattle.addr_rows.proofs.AddressMapLemmas.{address_code, address_names}
-use Rattle.addr_rows.proofs.AlikeLemmas.{code_back}
 use Rattle.addr_rows.proofs.RestackLemmas as restacks
 use Rattle.addr_rows.proofs.TranslatedLemmas as files
 use Rattle.run_laws.specs.Addresses.{addr_parts, addressed}

@@ -15,7 +15,7 @@ use Rattle.part_dump.specs.Steps.{Step, event_of, steps_of_thread, events_of_thr
 use Rattle.recorder.specs.Laws.{IsIn}
 use Rattle.recorder.specs.Rows.{rows_of}
 use Rattle.recorder.specs.inner.Known.{KnowsPlaces}
-use Rattle.recorder.proofs.ListLemmas.{in_left, in_right, of_all, from_map, in_filter, all_of}
+use Rattle.run_laws.proofs.Others.{in_left, in_right, of_all, from_map, in_filter, all_of, IsReached}
 use Rattle.recorder.proofs.KnownLemmas.{AreKnownIn, stack_known}
 use Rattle.profile_run.specs.Program.{Program, head_of_run, CanRun}
 use Rattle.profile_run.specs.Parts.{Writing, watched_parts}
@@ -32,7 +32,6 @@ use Rattle.ctx_rows.specs.Since.{StandsOn}
 use Rattle.ctx_rows.specs.States.{CtxState}
 use Rattle.ctx_rows.specs.Watching.{IsFresh, by_context}
 use Rattle.ctx_rows.proofs.FoldedLemmas.{folded_are}
-use Rattle.ctx_rows.proofs.HoldsLemmas.{IsReached}
 use Rattle.ctx_rows.proofs.LastLemmas.{all_stand}
 use Rattle.ctx_rows.proofs.PutLemmas.{cut_puts, run_puts}
 use Rattle.run_laws.proofs.EventLemmas.{orderly}

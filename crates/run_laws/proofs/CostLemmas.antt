@@ -3,12 +3,11 @@ use Rattle.std.proofs.Common.{◌≡◌, ◌≢◌, ℕ, ◌<◌, ◌==◌, ◌�
 use Rattle.std.proofs.Common.{get_or}
 use Rattle.call_graph.specs.Groups.{Grouping, is_member}
 use Rattle.call_graph.specs.Reach.{IsGroup, SameGroup, Steps}
-use Rattle.call_graph.proofs.GroupLemmas.{is_group}
+use Rattle.run_laws.proofs.Others.{arcs_within, is_group}
 use Rattle.cg_read.specs.Profiles.{Contents}
 use Rattle.cg_read.specs.Totals.{total}
 use Rattle.cycles.specs.Costs.{IsGroupsOf, IsInclusive, call_arcs, group_at, inclusive_cost}
 use Rattle.cycles.specs.Limits.{AreAllWithin, pair_cost}
-use Rattle.cycles.proofs.CountLemmas.{arcs_within}
 use Rattle.profile_run.specs.Program.{Program, head_of_run, CanRun}
 use Rattle.profile_run.specs.Trace.{Makes, RunStep}
 use Rattle.once_each.specs.Graphs.{AreOwn, AreOwnIn, IsOwn}
@@ -20,7 +19,7 @@ use Rattle.once_each.proofs.KnownLemmas.{function_once, known_groups}
 use Rattle.once_each.proofs.LawLemmas.{group_once, pair_once, self_sum}
 use Rattle.once_each.proofs.TextLemmas.{numbered_own, numbered_parts, read_is}
 use Rattle.reads_back.specs.Rows.{naming}
-use Rattle.reads_back.proofs.JoinedLemmas.{own_texts}
+use Rattle.run_laws.proofs.Others.{own_texts}
 use Rattle.run_laws.specs.Profiles.{CountOnce, IsProfileOfRun, graph_of_run, number_in}
 use Rattle.run_laws.specs.Profiles as run
 use Rattle.run_laws.specs.Runs.{events_with_costs, events_with_stacks, thread_rows}

@@ -1,4 +1,5 @@
 -- The rows by context of a run can be folded, and the plain rows are their sums.
+use Rattle.run_laws.proofs.Others.{listed_sums}
 use Rattle.std.proofs.Common.{ℕ, List}
 use Rattle.std.specs.List.{AllByRecursion}
 use Rattle.shadow_stack.specs.Traces.{EventOnStack}
@@ -10,7 +11,7 @@ use Rattle.ctx_rows.specs.Folding.{AreSumsOf, HaveContexts, plain}
 use Rattle.ctx_rows.specs.Known.{AreKnown}
 use Rattle.ctx_rows.specs.Rows.{CtxListed, ctx_rows_of}
 use Rattle.ctx_rows.specs.Since.{StandsOn}
-use Rattle.ctx_rows.proofs.FoldedLemmas.{listed_calls, listed_costs, listed_sums}
+use Rattle.ctx_rows.proofs.FoldedLemmas.{listed_calls, listed_costs}
 use Rattle.ctx_rows.proofs.KnownRowLemmas.{rows_known}
 use Rattle.run_laws.proofs.PieceLemmas as piece_of_run
 use Rattle.run_laws.proofs.PieceLemmas.{HaveSums}

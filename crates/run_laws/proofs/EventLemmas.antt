@@ -13,12 +13,11 @@ use Rattle.guest_sched.specs.Laws.{IsReached}
 use Rattle.guest_sched.specs.Machine.{Machine, next}
 use Rattle.guest_sched.specs.Step.{MachineStep}
 use Rattle.guest_sched.proofs.MoveLemmas.{next_is, step_is}
-use Rattle.guest_sched.proofs.OrderLemmas.{Holds, holds_first, holds_next}
+use Rattle.run_laws.proofs.Others.{Holds, holds_first, holds_next, of_machine}
 use Rattle.part_dump.specs.Steps.{Step, thread_of}
 use Rattle.profile_run.specs.Program.{Program, first_machine, CanRun}
 use Rattle.profile_run.specs.Steps.{AreOfMachine, AreTold, IsTold}
 use Rattle.profile_run.specs.Trace.{Makes, RunStep, events_of, steps_of}
-use Rattle.profile_run.proofs.MachineLemmas.{of_machine}
 use Rattle.once_each.specs.Graphs.{AreOfMap}
 use Rattle.once_each.specs.Orderly.{FitTops, FitsTop, GoOn, IsRunSized}
 use Rattle.once_each.specs.Runs.{AreOrderly, AreTakenAfter, HaveStacks, IsTaken}

@@ -1,3 +1,4 @@
+pub mod Others
 pub mod CostLemmas
 pub mod EventLemmas
 pub mod LoadedLemmas

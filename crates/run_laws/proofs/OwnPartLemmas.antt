@@ -37,7 +37,7 @@ use Rattle.reads_back.specs.Joined.{events_in, first_command, no_rows_of}
 use Rattle.reads_back.specs.Rows.{IsOfRows}
 use Rattle.reads_back.proofs.AllPartsLemmas.{IsPartText, all_joined, events_agree, each_text, joins_exist, read_on}
 use Rattle.reads_back.proofs.ExistsLemmas.{no_rows_profile}
-use Rattle.reads_back.proofs.JoinedLemmas.{longer_same}
+use Rattle.run_laws.proofs.Others.{longer_same}
 use Rattle.reads_back.proofs.PartLemmas.{alike}
 use Rattle.run_laws.specs.OwnParts.{IsOwnFault, files_of_run, texts_of_files, with_their_lengths}
 use Rattle.run_laws.specs.Profiles.{IsProfileOfRun}

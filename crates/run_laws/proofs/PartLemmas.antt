@@ -18,11 +18,10 @@ use Rattle.cg_format.specs.declared.head.PartHead.{PartHead}
 use Rattle.part_dump.specs.Cuts.{cuts}
 use Rattle.part_dump.specs.Steps.{Step, events_on_stack_of, thread_of, threads}
 use Rattle.part_dump.specs.Steps as steps
-use Rattle.part_dump.proofs.CutLemmas.{cuts_together}
+use Rattle.run_laws.proofs.Others.{cuts_together, all_sum_up, whole_arcs, whole_lines}
 use Rattle.profile_run.specs.Program.{Program, head_of_run, CanRun}
 use Rattle.recorder.specs.Rows.{rows_of}
 use Rattle.profile_run.specs.Trace.{Makes, Stop, RunStep, steps_of}
-use Rattle.recorder.proofs.RowSumLemmas.{all_sum_up, whole_arcs, whole_lines}
 use Rattle.once_each.specs.Orderly.{IsRunSized, IsSmall}
 use Rattle.once_each.specs.Parts.{ArePartsOfTrace, ThreadRows, is_by}
 use Rattle.once_each.specs.Runs.{AreOrderlyAfter, stacked_events}

@@ -15,15 +15,13 @@ use Rattle.recorder.specs.Laws.{IsIn}
 use Rattle.recorder.specs.Sums.{arc_calls, arc_cost, self_cost}
 use Rattle.recorder.specs.Rows.{rows_of}
 use Rattle.recorder.specs.Standing.{AreRowsOf}
-use Rattle.recorder.proofs.ListLemmas.{in_left, in_right, all_of, of_all, from_map, in_filter}
-use Rattle.recorder.proofs.RowSumLemmas.{all_sum_up, whole_arcs, whole_lines}
+use Rattle.run_laws.proofs.Others.{in_left, in_right, all_of, of_all, from_map, in_filter, all_sum_up, whole_arcs}
+use Rattle.run_laws.proofs.Others.{whole_lines, of_machine, IsReached}
 use Rattle.profile_run.specs.Program.{Program, CanRun}
 use Rattle.profile_run.specs.Trace.{Makes, RunStep, steps_of}
-use Rattle.profile_run.proofs.MachineLemmas.{of_machine}
 use Rattle.profile_run.proofs.SizeLemmas.{IsSmall, are_few, are_small, arc_fits, calls_fit, fewer, self_fits}
 use Rattle.ctx_rows.specs.Folding.{AreSumsOf}
 use Rattle.ctx_rows.specs.Since.{StandsOn}
-use Rattle.ctx_rows.proofs.HoldsLemmas.{IsReached}
 use Rattle.run_laws.proofs.AnswerLemmas.{all_on, each_reached, order_of}
 
 -- rows have the sums of these events, each place and arc any number of times

@@ -17,11 +17,9 @@ use Rattle.part_dump.specs.Calls.{steps_calls, thread_calls, tried_calls}
 use Rattle.part_dump.specs.Cuts.{DumpPoints, cuts}
 use Rattle.part_dump.specs.Steps.{Step, event_of, steps_of_thread, events_on_stack_of, thread_of, threads}
 use Rattle.part_dump.specs.Watched.{FitAll, IsOrderly, AreWatched, ready_pc, steps_in}
-use Rattle.part_dump.proofs.CutLemmas.{cuts_together}
-use Rattle.part_dump.proofs.StepLemmas.{own-append, own-other, own-push}
+use Rattle.run_laws.proofs.Others.{cuts_together, own-append, own-other, own-push, if_other, readied_more, steps_more}
 use Rattle.part_dump.proofs.WatchLemmas.{last-push}
 use Rattle.once_each.specs.Runs.{AreOrderly, AreOrderlyAfter}
-use Rattle.ctx_rows.proofs.HoldsLemmas.{if_other, readied_more, steps_more}
 
 fit_append : (syms : SymbolMap) (earlier xs ys : List Call) → FitAll syms earlier xs → FitAll syms (earlier ++ xs) ys
     → FitAll syms earlier (xs ++ ys)

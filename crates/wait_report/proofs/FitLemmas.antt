@@ -8,7 +8,7 @@ use Rattle.event_costs.specs.declared.event.Event.{Event}
 use Rattle.event_costs.specs.declared.numbers.ThreadNo.{ThreadNo}
 use Rattle.sym_map.specs.SymbolMap.{SymbolMap}
 use Rattle.shadow_stack.specs.Traces.{EventOnStack}
-use Rattle.arc_costs.proofs.FitLemmas.{fits_from_numbers}
+use Rattle.wait_report.proofs.Others.{fits_from_numbers}
 use Rattle.part_dump.specs.Steps.{Step}
 use Rattle.wait_report.specs.Keeping.{WaitBooks, WaitState, begins, open_of, after_event, spot, sum_of, wakes_all}
 use Rattle.wait_report.specs.Rows.{cost_at}

@@ -1,3 +1,4 @@
+mod Others
 pub mod FitLemmas
 pub mod RoomLemmas
 pub mod OrderLemmas

@@ -34,7 +34,7 @@ use Rattle.wait_report.specs.declared.books.Wake.{Wake}
 use Rattle.wait_report.specs.inner.Room.{AreInOrder, is_wake_of, wake_order, waker_in, wakers_of}
 use Rattle.wait_report.specs.inner.Lookups.{Tells, spot_tells, thread_tells, true_false, turned, wake_tells}
 use Rattle.arc_costs.specs.Keys.{IsIn, risen}
-use Rattle.arc_costs.proofs.RiseLemmas.{in_risen, one_list, risen_in, risen_rises, rises_from}
+use Rattle.wait_report.proofs.Others.{in_risen, one_list, risen_in, risen_rises, rises_from}
 
 -- ---- orders
 

@@ -4,7 +4,7 @@ use Rattle.std.proofs.Common.{get_or, refl, sym, ap, subst, ◌∙◌}
 use Rattle.std.proofs.Common.{arith, Option, Some, None, if◌then◌else◌, nat_lt}
 use Rattle.event_costs.specs.Costs.{difference_of_costs, sum_of_costs}
 use Rattle.arc_costs.specs.Keys.{by_kind}
-use Rattle.arc_costs.proofs.KindLemmas.{cost_is}
+use Rattle.wait_report.proofs.Others.{cost_is}
 use Rattle.part_dump.specs.Steps.{Step}
 use Rattle.wait_report.specs.declared.rows.WaitRow.{WaitRow}
 use Rattle.wait_report.specs.declared.rows.Waker.{Waker}

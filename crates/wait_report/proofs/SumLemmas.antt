@@ -26,8 +26,7 @@ use Rattle.wait_report.specs.inner.Lookups.{same_number, spot_tells}
 use Rattle.wait_report.specs.inner.Quiet.{AreQuiet, IsOfOthers, quiet_after}
 use Rattle.wait_report.proofs.OrderLemmas.{spot_only, spot_total}
 use Rattle.arc_costs.specs.Keys.{IsIn, by_kind}
-use Rattle.arc_costs.proofs.KindLemmas.{by_kind_at}
-use Rattle.arc_costs.proofs.RiseLemmas.{Rises, not_below_itself, risen_rises}
+use Rattle.wait_report.proofs.Others.{by_kind_at, Rises, not_below_itself, risen_rises}
 
 abbrev if_so : Bool → ℕ → ℕ
 if_so b n = if b then n else 0

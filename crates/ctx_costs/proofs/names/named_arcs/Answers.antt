@@ -1,9 +1,8 @@
 use Rattle.std.proofs.Common.{sym}
 use Rattle.arc_costs.specs.Arcs.{arc_of}
 use Rattle.event_costs.specs.Order.{same_arc}
-use Rattle.recorder.proofs.ArcRowLemmas.{arc_itself}
+use Rattle.ctx_costs.proofs.Others.{arc_itself, in_from_contains}
 use Rattle.ctx_costs.proofs.FoundLemmas.{has_row_of}
-use Rattle.ctx_rows.proofs.NamedLemmas.{in_from_contains}
 use Rattle.ctx_costs.proofs.names.named_arcs.Goals as goal
 
 pub named_arc-requires : goal.named_arc-requires

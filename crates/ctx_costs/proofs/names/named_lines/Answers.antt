@@ -1,9 +1,8 @@
 use Rattle.std.proofs.Common.{sym}
 use Rattle.arc_costs.specs.Lines.{place_of}
 use Rattle.event_costs.specs.Order.{same_place}
-use Rattle.recorder.proofs.LineLemmas.{place_itself}
+use Rattle.ctx_costs.proofs.Others.{place_itself, in_from_contains}
 use Rattle.ctx_costs.proofs.FoundLemmas.{has_row_of}
-use Rattle.ctx_rows.proofs.NamedLemmas.{in_from_contains}
 use Rattle.ctx_costs.proofs.names.named_lines.Goals as goal
 
 pub named_line-requires : goal.named_line-requires

@@ -3,7 +3,7 @@ use Rattle.event_costs.specs.Keys.{Place}
 use Rattle.event_costs.specs.declared.numbers.FuncId.{FuncId}
 use Rattle.shadow_stack.specs.Changes.{change}
 use Rattle.shadow_stack.specs.Frames.{stack}
-use Rattle.recorder.proofs.EnteredLemmas.{IsPushed}
+use Rattle.ctx_costs.proofs.Others.{IsPushed}
 use Rattle.ctx_rows.specs.Contexts.{Context, number, with_context}
 use Rattle.ctx_rows.specs.States.{contexts_after}
 use Rattle.ctx_costs.specs.inner.Keys.{listed}

@@ -3,8 +3,7 @@ use Rattle.event_costs.specs.Arcs.{Closed, Telling}
 use Rattle.event_costs.specs.Costs.{difference_of_costs}
 use Rattle.arc_costs.specs.Arcs.{has_arc}
 use Rattle.recorder.specs.inner.Tellers.{CanTell, RowsAfterTellings}
-use Rattle.recorder.proofs.SumLemmas.{own_cost}
-use Rattle.recorder.proofs.TellingLemmas.{none_used, row_told}
+use Rattle.ctx_costs.proofs.Others.{own_cost, none_used, row_told}
 use Rattle.ctx_costs.proofs.LeaveLemmas.{closing_some}
 use Rattle.ctx_costs.proofs.track.give.Goals as goal
 

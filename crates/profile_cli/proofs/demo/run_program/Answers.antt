@@ -2,7 +2,7 @@ use Rattle.std.proofs.Common.{◌∙◌, refl}
 use Rattle.profile_cli.proofs.DemoLemmas.{DemoStopped-wanting, RunsDemo-elf, RunsDemo-exit, job_is_job, only_wanting}
 use Rattle.part_dump.specs.Plain.{plain}
 use Rattle.profile_cli.proofs.OutsideLemmas.{Leaves-nothing}
-use Rattle.run_watches.proofs.KindLemmas.{nobody_is}
+use Rattle.profile_cli.proofs.Others.{nobody_is}
 use Rattle.profile_cli.proofs.TellLemmas.{demo_not_run, told_demo_run}
 use Rattle.profile_cli.proofs.WatchLemmas.{nobody_writes, plain_watched}
 use Rattle.profile_cli.proofs.demo.run_program.Goals as goal

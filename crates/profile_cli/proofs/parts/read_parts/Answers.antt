@@ -1,6 +1,6 @@
 use Rattle.std.proofs.Common.{Ok, Err, ap, refl, ◌∙◌, rules}
 use Rattle.profile_files.specs.Joined.{no_rows}
-use Rattle.command_steps.proofs.ReportLemmas.{ReadsFiles-wanting}
+use Rattle.profile_cli.proofs.Others.{ReadsFiles-wanting}
 use Rattle.command_steps.proofs.TellLemmas.{did_not_read}
 use Rattle.profile_cli.proofs.parts.read_parts.Goals as goal
 

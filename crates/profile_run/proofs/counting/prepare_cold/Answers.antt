@@ -1,7 +1,7 @@
 use Rattle.std.proofs.Common.{OnOk, sym, subst, refl, ◌∙◌}
 use Rattle.recorder.specs.Accounts.{Recording}
 use Rattle.recorder.specs.Notes.{first_account}
-use Rattle.recorder.proofs.StandingLemmas.{if_one}
+use Rattle.profile_run.proofs.Others.{if_one}
 use Rattle.profile_run.specs.inner.Standing.{Prepares}
 use Rattle.profile_run.proofs.BeginLemmas.{prepares_new}
 use Rattle.profile_run.proofs.counting.prepare_cold.Goals as goal

@@ -1,5 +1,5 @@
 use Rattle.std.proofs.Common.{arith, [], refl}
-use Rattle.event_costs.proofs.RunLemmas.{IsTrace-same}
+use Rattle.profile_run.proofs.Others.{IsTrace-same}
 use Rattle.profile_run.specs.Program.{first_machine}
 use Rattle.profile_run.specs.Trace.{next_step, start}
 use Rattle.profile_run.proofs.TraceLemmas.{goes_on}

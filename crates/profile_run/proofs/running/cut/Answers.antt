@@ -2,7 +2,7 @@ use Rattle.std.proofs.Common.{sym, ◌∙◌, inl, inr}
 use Rattle.std.proofs.Common.{arith}
 use Rattle.profile_run.proofs.CutStepLemmas as step
 use Rattle.profile_run.proofs.running.cut.Goals as goal
-use Rattle.recorder.proofs.ListLemmas.{none_of}
+use Rattle.profile_run.proofs.Others.{none_of}
 
 pub returns-then-begun-gt-MOST_CUTS-clause-cuts : goal.returns-then-begun-gt-MOST_CUTS-clause-cuts
 returns-then-begun-gt-MOST_CUTS-clause-cuts g c = λ guest first past last old symbols options rule uncut put.

@@ -6,7 +6,7 @@ use Rattle.outside.specs.Outside.{shelf_of}
 use Rattle.profile_run.specs.inner.Standing.{StandsAfter}
 use Rattle.profile_run.proofs.CutStepLemmas as step
 use Rattle.profile_run.proofs.running.cut_cold.Goals as goal
-use Rattle.recorder.proofs.ListLemmas.{some_of}
+use Rattle.profile_run.proofs.Others.{some_of}
 
 pub returns-in-Err-clause-cuts : goal.returns-in-Err-clause-cuts
 returns-in-Err-clause-cuts g c = λ guest first past last old symbols options rule uncut put.

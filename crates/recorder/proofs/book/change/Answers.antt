@@ -2,7 +2,7 @@ use Rattle.std.proofs.Common.{ap, arith, length}
 use Rattle.shadow_stack.specs.Arenas.{frames}
 use Rattle.shadow_stack.specs.Frames.{count_pushed}
 use Rattle.shadow_stack.specs.declared.frame.Frame.{Frame}
-use Rattle.shadow_stack.proofs.StayLemmas.{none_gone, none_pushed, same_frames}
+use Rattle.recorder.proofs.Others.{none_gone, none_pushed, same_frames}
 use Rattle.recorder.proofs.BookLemmas as book
 use Rattle.recorder.proofs.StayLemmas.{nothing_noted, rows_untold}
 use Rattle.recorder.proofs.book.change.Goals as goal

@@ -1,8 +1,7 @@
 use Rattle.std.proofs.Common.{◌≡◌, [], ◌∷◌, ℕ, zero, suc, Bool, List, OnOk, if◌then◌else◌, sym, ap, ◌∙◌, subst}
 use Rattle.indexmap.specs.IndexMap.{insert_entry, set_value_at}
-use Rattle.arc_costs.proofs.EntryLemmas.{IsAt, at_position, insert_new}
+use Rattle.wait_report.proofs.Others.{IsAt, at_position, insert_new, value_of_place}
 use Rattle.arc_costs.proofs.TableLemmas.{unfound}
-use Rattle.arc_costs.proofs.TreeLemmas.{value_of_place}
 use Rattle.wait_report.proofs.tally.put.Goals as goal
 
 -- to write a key's value is to insert it

@@ -1,7 +1,6 @@
 use Rattle.std.proofs.Common.{◌≡◌, Some, List, position, sym, ap, ◌∙◌}
 use Rattle.std.specs.Map.{keys_of, lookup}
-use Rattle.arc_costs.proofs.EntryLemmas.{at_position, lookup_at}
-use Rattle.arc_costs.proofs.TreeLemmas.{element, value_of_place, value_there, within_place}
+use Rattle.wait_report.proofs.Others.{at_position, lookup_at, element, value_of_place, value_there, within_place}
 use Rattle.wait_report.proofs.tally.value_of.Goals as goal
 
 pub returns : goal.returns

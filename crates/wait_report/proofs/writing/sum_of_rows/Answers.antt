@@ -1,7 +1,7 @@
 use Rattle.std.proofs.Common.{List, ℕ, get_or, take, sym, ap, subst, ◌∙◌, arith, refl}
 use Rattle.std.proofs.lemmas.List.Sums.{fold_more, sum_by_more, sum_by_more_le}
 use Rattle.event_costs.specs.Costs.{IsWhole, event_kinds, no_cost, sum_of_costs}
-use Rattle.arc_costs.proofs.FitLemmas.{fits_from_numbers}
+use Rattle.wait_report.proofs.Others.{fits_from_numbers}
 use Rattle.arc_costs.proofs.RowLemmas.{zero_replicate}
 use Rattle.wait_report.specs.Texts.{sum_of_rows}
 use Rattle.wait_report.specs.declared.rows.WaitRow.{WaitRow}

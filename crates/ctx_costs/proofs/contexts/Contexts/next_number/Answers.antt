@@ -4,7 +4,7 @@ use Rattle.std.proofs.lemmas.List.{length-map}
 use Rattle.ctx_rows.specs.Contexts.{has_context}
 use Rattle.ctx_costs.specs.inner.Keys.{Held, listed}
 use Rattle.ctx_costs.proofs.KeyLemmas.{all_tests, found_place, key_any, key_eq, key_place}
-use Rattle.ctx_rows.proofs.NumberLemmas.{none_place, place}
+use Rattle.ctx_costs.proofs.Others.{none_place, place}
 use Rattle.ctx_costs.proofs.WatchLemmas.{none_any, past_all}
 use Rattle.ctx_costs.proofs.contexts.Contexts.next_number.Goals as goal
 

@@ -4,7 +4,7 @@ use Rattle.std.specs.Map.{keys_of}
 use Rattle.std.proofs.lemmas.List.{length-map, map-append}
 use Rattle.std.proofs.lemmas.Result.{IfOk-at_ok}
 use Rattle.ctx_rows.specs.Contexts.{has_context, with_context}
-use Rattle.ctx_rows.proofs.NumberLemmas.{none_place, place}
+use Rattle.ctx_costs.proofs.Others.{none_place, place}
 use Rattle.ctx_costs.specs.inner.Keys.{Held, listed}
 use Rattle.ctx_costs.proofs.KeyLemmas.{added, all_tests, found_place, key_any, key_eq, key_place, not_next}
 use Rattle.ctx_costs.proofs.WatchLemmas.{none_any, past_all}

@@ -1,9 +1,8 @@
 use Rattle.std.proofs.Common.{◌≡◌, ℕ, ap, drop, is_some, subst, sym, take}
 use Rattle.shadow_stack.specs.Changes.{Change, drop_count, with_pushed}
 use Rattle.shadow_stack.specs.Frames.{closings, stack}
-use Rattle.shadow_stack.proofs.StayLemmas.{none_gone}
+use Rattle.ctx_costs.proofs.Others.{none_gone, none_told}
 use Rattle.recorder.specs.inner.Tellers.{RowsAfterTellings}
-use Rattle.recorder.proofs.TellingLemmas.{none_told}
 use Rattle.ctx_costs.specs.inner.Tracks.{frames_of}
 use Rattle.ctx_costs.proofs.track.Track.change.Goals as goal
 

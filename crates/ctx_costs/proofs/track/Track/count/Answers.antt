@@ -3,7 +3,7 @@ use Rattle.event_costs.specs.Keys.{Place}
 use Rattle.arc_costs.specs.Lines.{line_sum}
 use Rattle.event_costs.specs.Order.{same_place}
 use Rattle.arc_costs.proofs.FitLemmas.{fits_from_numbers}
-use Rattle.recorder.proofs.BookLemmas.{line_more}
+use Rattle.ctx_costs.proofs.Others.{line_more}
 use Rattle.ctx_costs.proofs.track.Track.count.Goals as goal
 
 pub add_total-requires : goal.add_total-requires

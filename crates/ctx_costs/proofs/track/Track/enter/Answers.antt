@@ -3,7 +3,7 @@ use Rattle.event_costs.specs.Arcs.{Pushed}
 use Rattle.event_costs.specs.Keys.{ArcKey, Place}
 use Rattle.arc_costs.specs.Arcs.{has_arc}
 use Rattle.recorder.specs.inner.Tellers.{RowsAfterTellings}
-use Rattle.recorder.proofs.TellingLemmas.{at_most_one, row_told}
+use Rattle.ctx_costs.proofs.Others.{at_most_one, row_told}
 use Rattle.ctx_rows.specs.States.{entering_arc, top_number}
 use Rattle.ctx_costs.specs.inner.Tracks.{frames_of}
 use Rattle.ctx_costs.proofs.track.Track.enter.Goals as goal

@@ -4,7 +4,7 @@ use Rattle.arc_costs.specs.Arcs.{arc_sum, call_sum}
 use Rattle.arc_costs.specs.Lines.{line_sum}
 use Rattle.arc_costs.specs.Rows.{LineRow}
 use Rattle.recorder.specs.inner.TellerLaws.{arc_sum-append, call_sum-append}
-use Rattle.recorder.proofs.SumLemmas.{closings_calls, closings_costs}
+use Rattle.ctx_costs.proofs.Others.{closings_calls, closings_costs}
 use Rattle.ctx_costs.specs.inner.Tracks.{track_of}
 use Rattle.ctx_rows.specs.Tracks.{account_of}
 use Rattle.ctx_costs.proofs.OpenLemmas.{cut_of, open_items, starts_items}

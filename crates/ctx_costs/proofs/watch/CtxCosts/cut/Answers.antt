@@ -1,7 +1,6 @@
 use Rattle.std.proofs.Common.{◌≡◌, ◌∙◌, List, Some, ap, false, subst, sym, true}
-use Rattle.recorder.proofs.RecordingLemmas.{any-map}
+use Rattle.ctx_costs.proofs.Others.{any-map, true_false}
 use Rattle.ctx_rows.specs.States.{CtxState, after_part, is_track_of, knows}
-use Rattle.ctx_rows.proofs.NumberLemmas.{true_false}
 use Rattle.ctx_costs.specs.inner.Tracks.{Book, IsPlaceOf, track_of}
 use Rattle.ctx_costs.proofs.ReadyLemmas.{is_there}
 use Rattle.ctx_costs.proofs.SeenLemmas.{as_ready, cut_state, cut_watch, ready_of, room_still}

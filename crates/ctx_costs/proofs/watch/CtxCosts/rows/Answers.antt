@@ -1,9 +1,8 @@
 use Rattle.std.proofs.Common.{◌≡◌, ◌∙◌, List, Some, ap, false, map, subst, sym, true}
-use Rattle.recorder.proofs.RecordingLemmas.{any-map}
+use Rattle.ctx_costs.proofs.Others.{any-map, true_false}
 use Rattle.ctx_rows.specs.Rows.{CtxListed}
 use Rattle.ctx_rows.specs.Telling.{rows_in}
 use Rattle.ctx_rows.specs.States.{CtxState, is_track_of, knows}
-use Rattle.ctx_rows.proofs.NumberLemmas.{true_false}
 use Rattle.ctx_costs.specs.inner.Naming.{AreNamedRows}
 use Rattle.ctx_costs.specs.inner.Tracks.{Book, IsPlaceOf, track_of}
 use Rattle.ctx_costs.proofs.ReadyLemmas.{is_there}

@@ -1,9 +1,8 @@
 use Rattle.std.proofs.Common.{List, Some, ap, length, refl, subst, sym, ◌<◌, ◌≡◌, ◌∙◌, true, false}
-use Rattle.recorder.proofs.RecordingLemmas.{any-map}
+use Rattle.ctx_costs.proofs.Others.{any-map, true_false}
 use Rattle.ctx_rows.specs.Telling.{CanCount}
 use Rattle.ctx_rows.specs.States.{CtxState, after_seen, is_track_of, knows, track}
 use Rattle.ctx_costs.specs.inner.Tracks.{Book, IsPlaceOf, track_of}
-use Rattle.ctx_rows.proofs.NumberLemmas.{true_false}
 use Rattle.ctx_costs.proofs.ReadyLemmas.{is_there}
 use Rattle.ctx_costs.proofs.SeenLemmas.{as_ready, here_can, here_live, ready_of, seen_state}
 use Rattle.ctx_costs.proofs.SeenLemmas.{seen_watch}

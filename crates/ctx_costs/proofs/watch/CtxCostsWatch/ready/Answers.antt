@@ -1,5 +1,5 @@
 use Rattle.std.proofs.Common.{◌≡◌, ◌∙◌, ap, map, sym, true}
-use Rattle.recorder.proofs.RecordingLemmas.{any-map}
+use Rattle.ctx_costs.proofs.Others.{any-map}
 use Rattle.ctx_rows.specs.States.{CtxState, after_ready, is_track_of, knows}
 use Rattle.ctx_costs.specs.inner.Tracks.{track_of}
 use Rattle.ctx_costs.proofs.ReadyLemmas.{is_there}

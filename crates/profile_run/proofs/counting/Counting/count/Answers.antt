@@ -1,7 +1,7 @@
 use Rattle.std.proofs.Common.{◌≡◌, Some, sym, subst, ap, ◌∙◌}
 use Rattle.recorder.specs.Accounts.{account}
 use Rattle.recorder.specs.Notes.{CanNote, noted_answer}
-use Rattle.recorder.proofs.BoundLemmas.{units}
+use Rattle.profile_run.proofs.Others.{units}
 use Rattle.shadow_stack.specs.Frames.{stack}
 use Rattle.shadow_stack.specs.Stacks.{top_of}
 use Rattle.sym_map.specs.SymbolMap.{SymbolMap, place_of}

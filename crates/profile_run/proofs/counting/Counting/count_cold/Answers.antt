@@ -1,7 +1,7 @@
 use Rattle.std.proofs.Common.{sym, subst, ap, ◌∙◌}
 use Rattle.recorder.specs.Accounts.{account}
 use Rattle.recorder.specs.Notes.{CanNote, noted_answer}
-use Rattle.recorder.proofs.BoundLemmas.{units}
+use Rattle.profile_run.proofs.Others.{units}
 use Rattle.sym_map.specs.SymbolMap.{SymbolMap}
 use Rattle.event_costs.specs.declared.numbers.FuncId.{FuncId}
 use Rattle.profile_run.specs.Trace.{events_of}

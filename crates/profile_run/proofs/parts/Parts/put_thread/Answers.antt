@@ -10,7 +10,7 @@ use Rattle.part_dump.specs.Files.{part_name}
 use Rattle.profile_run.specs.Program.{Options}
 use Rattle.profile_run.specs.inner.Standing.{HasPut, calls_below, files_after}
 use Rattle.recorder.specs.inner.Known.{KnowsPlaces}
-use Rattle.recorder.proofs.AllRowLemmas.{are_whole}
+use Rattle.profile_run.proofs.Others.{are_whole}
 use Rattle.profile_run.proofs.PutThreadLemmas as puts
 use Rattle.profile_run.proofs.PutThreadLemmas.{Takes}
 use Rattle.profile_run.proofs.PuttingLemmas as putting

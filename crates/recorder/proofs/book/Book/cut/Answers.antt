@@ -2,7 +2,7 @@ use Rattle.std.proofs.Common.{refl, ap, sym, subst, ◌∙◌, arith, List}
 use Rattle.shadow_stack.specs.Arenas.{frames}
 use Rattle.shadow_stack.specs.Frames.{StartWithin}
 use Rattle.shadow_stack.specs.declared.frame.Frame.{Frame}
-use Rattle.shadow_stack.proofs.FrameLemmas.{StartWithin-restarted}
+use Rattle.recorder.proofs.Others.{StartWithin-restarted}
 use Rattle.arc_costs.specs.Arcs.{cleared_arcs}
 use Rattle.recorder.specs.Notes.{open_sum}
 use Rattle.recorder.specs.inner.Books.{AreEntered, AreKeyed}

@@ -14,7 +14,7 @@ use Rattle.shadow_stack.specs.declared.frame.Frame.{Frame}
 use Rattle.arc_costs.specs.Arcs.{arc_sum, call_sum}
 use Rattle.arc_costs.specs.Rows.{ArcRow}
 use Rattle.arc_costs.proofs.FitLemmas.{fits_from_numbers}
-use Rattle.arc_costs.proofs.RowLemmas.{number_of_sum}
+use Rattle.recorder.proofs.Others.{number_of_sum}
 use Rattle.recorder.specs.Notes.{open_sum}
 use Rattle.recorder.specs.inner.Books.{AreEntered, AreKeyed}
 use Rattle.recorder.specs.inner.Tellers.{RowsAfterTellings}

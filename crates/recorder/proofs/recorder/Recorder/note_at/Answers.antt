@@ -19,7 +19,7 @@ use Rattle.recorder.specs.inner.Active.{AreMarked, IsMarkedReady}
 use Rattle.recorder.proofs.ReadyLemmas.{one_element, remembered_after}
 use Rattle.recorder.proofs.RecordingLemmas as recordings
 use Rattle.recorder.proofs.RecordingLemmas.{IsUpdated}
-use Rattle.shadow_stack.proofs.StayLemmas.{none_pushed}
+use Rattle.recorder.proofs.Others.{none_pushed}
 use Rattle.recorder.proofs.recorder.Recorder.note_at.Given
 use Rattle.recorder.proofs.recorder.Recorder.note_at.Goals as goal
 
