@@ -3,10 +3,11 @@
 behind it has no table), and from what the root of each crate says first. It tells where the page differs; with --write
 it writes it. It also tells where a crate stands on one of a layer above its own, where PROVED has its headings in
 another order, and where proofs cite more of other crates' proofs, or of their inner words, than the page says: these
-numbers may only fall. And it tells which function has more than 40 lines beside its clauses, but for the table of the
-instructions. It ends with 1 where it tells something."""
+numbers may only fall. And it tells where more than 11 crates stand on one another, and which function has more than 40
+lines beside its clauses, but for the table of the instructions. It ends with 1 where it tells something."""
 
 import difflib
+import functools
 import glob
 import os
 import re
@@ -16,7 +17,7 @@ import textwrap
 TOP = os.path.join(os.path.dirname(os.path.abspath(__file__)), "..")
 
 PAGE = "docs/MAP.md"
-MOST_LINES, TABLE = 40, "crates/rv_step/src/execution.rt: execute"
+MOST_CRATES, MOST_LINES, TABLE = 11, 40, "crates/rv_step/src/execution.rt: execute"
 HEAD = """\
 # The map
 
@@ -98,6 +99,14 @@ def cites(stands):
     return found
 
 
+def longest_chain(stands):
+    """How many crates stand on one another at most."""
+    @functools.lru_cache(None)
+    def height(crate):
+        return 1 + max((height(below) for below in stands[crate] if below in stands), default=0)
+    return max(map(height, stands))
+
+
 def long_functions():
     """The functions of more lines than may be, their clauses left out."""
     head = r"(?:pub(?:\(\w+\))? )?(?:const )?fn (\w+)"
@@ -172,6 +181,8 @@ def main():
     headings = re.findall(r"^### `(\w+)`$", read("docs/PROVED.md"), re.M)
     if headings != order:
         told.append("docs/PROVED.md: its headings are " + " ".join(headings) + "\n  and should be " + " ".join(order))
+    if longest_chain(stands) > MOST_CRATES:
+        told.append(f"crates.txt: {longest_chain(stands)} crates stand on one another")
     told += long_functions()
     made = page(found, stands)
     risen = [pair for pair in zip(numbers_of_cites(read(PAGE)), numbers_of_cites(made)) if pair[0] < pair[1]]
