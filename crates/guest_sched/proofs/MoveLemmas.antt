@@ -29,7 +29,7 @@ use Rattle.guest_sys.specs.declared.effect.Effect.{Effect}
 use Rattle.guest_sys.proofs.BalanceLemmas.{times_live-set}
 use Rattle.guest_sys.proofs.GuestLemmas.{caller_lawful}
 use Rattle.guest_sys.proofs.LiveLemmas.{caller_found, caller_is, nobody}
-use Rattle.guest_sys.proofs.ShapeLemmas.{HasShape, row_balanced, row_shape}
+use Rattle.guest_sys.proofs.KeptLemmas.{HasShape, call_does}
 use Rattle.guest_sched.specs.declared.turns.Fate.{Fate}
 use Rattle.guest_sched.specs.declared.turns.Fate.TheVariants as fate
 use Rattle.guest_sched.specs.RunQueue.{RunQueue, ends_turn, after_step}
@@ -355,8 +355,9 @@ moved_call w x w' lawful lively s =
     let g = w.kernel.guest in
     let a = s.effect.act in
     let run = run_is w c lively s.runs in
-    let shape = row_shape c w.kernel s.effect s.after run.found s.row in
-    let balanced = row_balanced c w.kernel s.effect s.after run.caller run.found s.row in
+    let does = call_does c w.kernel s.effect s.after run.caller run.found s.row in
+    let shape = does.shape in
+    let balanced = does.kept.balanced in
     let wc = with_call w a s.after in
     let threads = s.effect.woken ++ spawned_by a in
     let v = engine_after_step (fate_of a) threads wc in

@@ -13,7 +13,6 @@ use Rattle.guest_load.specs.Lawful.{IsLawful}
 use Rattle.guest_load.specs.Guest.{Guest}
 use Rattle.guest_futex.specs.declared.queue.Wait.{Wait}
 use Rattle.guest_sys.specs.declared.caller.Caller.{Caller}
-use Rattle.guest_sys.specs.declared.effect.Act.TheVariants as act
 use Rattle.guest_sys.specs.declared.effect.Effect.{Effect}
 use Rattle.guest_sys.specs.declared.futexes.Operation.{Operation}
 use Rattle.guest_sys.specs.declared.futexes.Operation.TheVariants as operation

@@ -1,4 +1,4 @@
-use Rattle.std.proofs.Common.{◌+◌, arith}
+use Rattle.std.proofs.Common.{arith}
 use Rattle.guest_sys.proofs.PlaceLemmas.{sought_past, sought_on, sought_found, sought_next, sought_none}
 use Rattle.guest_sys.proofs.pages.lowest_free.Goals as goal
 
