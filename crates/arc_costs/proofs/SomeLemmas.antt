@@ -10,7 +10,8 @@ use Rattle.std.proofs.lemmas.Bool.Decides.{Decides-eqb}
 use Rattle.std.proofs.lemmas.List.Elements.{All-from_recursion}
 use Rattle.std.proofs.lemmas.List.Sorted.{All-permutation, IsPermutation-cons, IsPermutation-map, IsPermutation-middle}
 use Rattle.std.proofs.lemmas.List.{append-nil, length-append, length-map}
-use Rattle.std.proofs.lemmas.List.Sorted.{IsPermutation-append_left, IsPermutation-refl, IsPermutation-sym, IsPermutation-to_front}
+use Rattle.std.proofs.lemmas.List.Sorted.{IsPermutation-append_left, IsPermutation-refl, IsPermutation-sym}
+use Rattle.std.proofs.lemmas.List.Sorted.{IsPermutation-to_front}
 use Rattle.std.proofs.lemmas.List.Sorted.{IsPermutation-trans, length_permutation, list_any-IsPermutation}
 use Rattle.std.proofs.lemmas.Option.{none-some, same_Some}
 use Rattle.arc_costs.specs.Amounts.{clear_amounts}
@@ -75,7 +76,7 @@ among_more false start j is rest = rest
 -- Rows
 
 module _ {K A : Type 0} where
-  -- a value and the row before it
+  -- the value of a row is whole where all are
   pub whole_at : (is_whole : A → Type 0) (es : List (K × A)) (i : ℕ) (v : A) → AllWhole is_whole es
       → slice_get (values_of es) i ≡ Some v → is_whole v
   whole_at is_whole [] i v whole at = absurd (none-some v at)
@@ -247,7 +248,8 @@ module _ {K A : Type 0} where
     module _ (es : List (K × A)) (some : List ℕ) (cap : ℕ) (knows : Knows is_some es some cap) (e : K × A)
         (place : length es + 1 ≤ cap) where
       fits_more : length (es ++ e ∷ []) ≤ cap
-      fits_more = let long : length (es ++ e ∷ []) ≡ length es + 1 = length-append es (e ∷ []) in omega (arith, long, place)
+      fits_more =
+          let long : length (es ++ e ∷ []) ≡ length es + 1 = length-append es (e ∷ []) in omega (arith, long, place)
 
       put : (b : Bool) → is_some e.1 ≡ b
           → somes 0 (es ++ e ∷ []) ≡ somes 0 es ++ (if b then length es ∷ [] else [])
@@ -279,7 +281,8 @@ module _ {K A : Type 0} where
         fits = fits_still;
       }
 
-      pub knows_noted : is_some held ≡ false → is_some v ≡ true → Knows is_some (set_value_at es i v) (some ++ i ∷ []) cap
+      pub knows_noted : is_some held ≡ false → is_some v ≡ true
+          → Knows is_some (set_value_at es i v) (some ++ i ∷ []) cap
       knows_noted none is = record {
         each = noted es i v held some at none is knows.each;
         fits = fits_still;
@@ -343,7 +346,8 @@ module _ {K A : Type 0} where
         (subst (λ n. list_any (λ k. k == n) (somes (suc start) es) ≡ true) next (among (suc start) es i v at some))
 
     -- all that aren't nothing are left at first
-    module _ (nothing : A) (is_whole : A → Type 0) (none_is_nothing : (a : A) → is_whole a → is_some a ≡ false → a ≡ nothing)
+    module _ (nothing : A) (is_whole : A → Type 0)
+        (none_is_nothing : (a : A) → is_whole a → is_some a ≡ false → a ≡ nothing)
       where
         pub all_left : (es : List (K × A)) (some : List ℕ) → AllWhole is_whole es → IsPermutation (somes 0 es) some
             → AreLeft nothing es some
@@ -361,7 +365,8 @@ module _ {K A : Type 0} where
         → somes start (clear_amounts nothing es) ≡ []
     none_after nothing none start [] = refl
     none_after nothing none start (e ∷ es) =
-        ap (λ b. if b then start ∷ somes (suc start) (clear_amounts nothing es) else somes (suc start) (clear_amounts nothing es)) none
+        let rest = somes (suc start) (clear_amounts nothing es) in
+        ap (λ b. if b then start ∷ rest else rest) none
         ∙ none_after nothing none (suc start) es
 
     pub knows_none : (nothing : A) → is_some nothing ≡ false → (es : List (K × A)) (cap : ℕ) → length es ≤ cap

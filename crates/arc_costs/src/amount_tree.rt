@@ -1,7 +1,7 @@
 //! Amounts that are found by the digits of their keys.
 
-ghost use Rattle.std.specs.Prelude.{◌≡◌, ◌+◌, ◌^◌, ◌<◌, ◌≤◌, [], ◌∷◌, ◌++◌, Some, None, true, IfOk, IfSome, IsOk, OnOk, OnErr};
-ghost use Rattle.std.specs.Prelude.{filter, is_some, length, position, slice_get, IsPermutation};
+ghost use Rattle.std.specs.Prelude.{◌≡◌, ◌+◌, ◌^◌, ◌<◌, ◌≤◌, [], ◌∷◌, ◌++◌, Some, None, true, IfOk, IfSome, IsOk};
+ghost use Rattle.std.specs.Prelude.{OnErr, OnOk, filter, is_some, length, position, slice_get, IsPermutation};
 ghost use Rattle.std.specs.List.{IsDistinct};
 ghost use Rattle.std.specs.Map.{keys_of, lookup, values_of};
 ghost use Rattle.indexmap.specs.IndexMap.{set_value_at};
@@ -59,7 +59,7 @@ impl<K: Digits, A: Amount> AmountTree<K, A> {
         self.rows.len()
     }
 
-    /// Whether the row at this index has this key, and an amount that is begun.
+    /// Whether it is seen that the row at this index has this key: where its amount isn't begun, it isn't.
     #[inline(always)]
     pub fn is_at(&self, index: usize, key: &K) -> bool
         ensures { result ≡ true → position (K.eq key.now) (keys_of self.now.entries) ≡ Some index }
@@ -67,7 +67,8 @@ impl<K: Digits, A: Amount> AmountTree<K, A> {
         self.rows.is_at(index, key) && self.rows.value(index).is_begun()
     }
 
-    /// The index of a key's row. It is looked for at one index first.
+    /// The index of a key's row. It is looked for at one index first, where it is found with its amount begun: so an
+    /// addition there asks nothing more.
     #[inline(always)]
     pub fn index_near(&self, near: usize, key: &K) -> Option<usize>
         ensures index { result ≡ position (K.eq key.now) (keys_of self.now.entries) }
@@ -110,7 +111,7 @@ impl<K: Digits, A: Amount> AmountTree<K, A> {
         Ok(())
     }
 
-    /// Adds to the amount of a row. One that is begun isn't nothing, so it is among those that are known.
+    /// Adds to the amount of a row. One that is begun isn't nothing, so its index is among those of such rows already.
     #[inline(always)]
     pub fn add_to<P: Part<A>>(&mut self, index: usize, amount: &P)
         requires within { index < length self.old.entries }
@@ -129,7 +130,7 @@ impl<K: Digits, A: Amount> AmountTree<K, A> {
         }
     }
 
-    /// Adds to an amount that may be nothing.
+    /// Adds to an amount that may be nothing before.
     #[cold]
     #[inline(never)]
     fn begin<P: Part<A>>(&mut self, index: usize, amount: &P)

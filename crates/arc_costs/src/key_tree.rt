@@ -143,19 +143,6 @@ impl<K: Digits, A: Copy> KeyTree<K, A> {
         }
     }
 
-    /// The index of a key's row. It is looked for at one index first.
-    #[inline(always)]
-    pub fn index_near(&self, near: usize, key: &K) -> Option<usize>
-        ensures index { result ≡ position (K.eq key.now) (keys_of self.now.entries) }
-        ensures found { is_some result ≡ is_some (lookup (K.eq key.now) self.now.entries) }
-        ensures within { IfSome result (λ index. index < length self.now.entries) }
-    {
-        if self.is_at(near, key) {
-            return Some(near);
-        }
-        self.index_of(key)
-    }
-
     /// Makes room for this many more rows.
     pub fn reserve(&mut self, count: usize) -> Result<(), OutOfMemory>
         ensures entries { self.new.entries ≡ self.old.entries }

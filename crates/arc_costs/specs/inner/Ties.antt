@@ -1,5 +1,6 @@
 -- What adding amounts keeps.
-use Rattle.std.specs.Prelude.{◌≡◌, ◌+◌, ◌==◌, ◌||◌, ℕ, zero, suc, Bool, true, false, not, List, length, map, refl, replicate}
+use Rattle.std.specs.Prelude.{◌≡◌, ◌+◌, ◌==◌, ◌||◌, ℕ, zero, suc, Bool, true, false, not, List, length, map, refl}
+use Rattle.std.specs.Prelude.{replicate}
 use Rattle.std.proofs.Common.{[], ◌∷◌, sym, ap, ◌∙◌, arith, true≢false}
 use Rattle.std.proofs.lemmas.Bool.Decides.{Decides-eqb}
 use Rattle.std.proofs.lemmas.Simd.{length-zip2, zip2_splat_left}

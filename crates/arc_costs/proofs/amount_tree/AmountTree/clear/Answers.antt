@@ -65,11 +65,13 @@ invariant_of-self g c =
     let cap : c.self.inside.some.cap ≡ c.clear.new.self.cap = sym c.clear.ensures.capacity in
     subst (λ es. Knows g.A.Amount.is_some es c.clear.new.self.items c.clear.new.self.cap)
     (sym (cleared g (goal.at.invariant_of-self g c).After-clear))
-    (subst (λ is. Knows g.A.Amount.is_some (clear_amounts g.A.Amount.nothing c.self.inside.rows.entries) is c.clear.new.self.cap)
+    (subst
+    (λ is. Knows g.A.Amount.is_some (clear_amounts g.A.Amount.nothing c.self.inside.rows.entries) is c.clear.new.self.cap)
     (sym c.clear.ensures.items)
     (knows_none g.A.Amount.is_some g.A.Amount.nothing g.met.A.Amount.nothing_is_none c.self.inside.rows.entries
     c.clear.new.self.cap (omega (arith, fits, cap))))
 
 pub returns-clause-entries : goal.returns-clause-entries
 returns-clause-entries g c =
-    cleared g (goal.at.returns-clause-entries g c).After-clear ∙ ap (λ v. clear_amounts g.A.Amount.nothing v.entries) c.self.view_is
+    cleared g (goal.at.returns-clause-entries g c).After-clear
+    ∙ ap (λ v. clear_amounts g.A.Amount.nothing v.entries) c.self.view_is

@@ -1,4 +1,5 @@
-use Rattle.std.proofs.Common.{◌≡◌, ◌<◌, ℕ, [], ◌∷◌, ◌++◌, IsPermutation, filter, get_or, length, map, take, sym, ap, ◌∙◌, subst, arith}
+use Rattle.std.proofs.Common.{◌≡◌, ◌<◌, ℕ, [], ◌∷◌, ◌++◌, IsPermutation, filter, get_or, length, map, take, sym, ap}
+use Rattle.std.proofs.Common.{◌∙◌, subst, arith}
 use Rattle.std.proofs.lemmas.List.{get_or_read, length-append, map-append, take_all, take_more}
 use Rattle.arc_costs.proofs.SomeLemmas.{all_listed, within}
 use Rattle.arc_costs.proofs.amount_tree.AmountTree.list_rows.Given.{Over}
@@ -6,7 +7,8 @@ use Rattle.arc_costs.proofs.amount_tree.AmountTree.list_rows.Goals as goal
 use Rattle.arc_costs.proofs.amount_tree.AmountTree.list_rows.Goals.{In-rows}
 
 -- each index is one of a row
-below : (g : Over) (c : In-rows g) → get_or c.deref-index-items.result.now c.rows.index-index 0 < length c.rows-rows.result.now
+below : (g : Over) (c : In-rows g)
+    → get_or c.deref-index-items.result.now c.rows.index-index 0 < length c.rows-rows.result.now
 below g c =
     let some = c.self.inside.some.items in
     let items = c.deref-index-items.ensures.value in
@@ -25,7 +27,10 @@ offset_bounds-rows-index g c = let less = below g (goal.at.offset_bounds-rows-in
 
 pub rows-preserved : goal.rows-preserved
 rows-preserved g c = record {
-  long = let more = length-append c.rows.listed.items (c.index-rows-index.result ∷ []) in let items = ap (λ rows. length rows) c.in_ok-push.ensures.items in omega (arith, more, items, c.rows.invariant.long);
+  long =
+      let more = length-append c.rows.listed.items (c.index-rows-index.result ∷ []) in
+      let items = ap (λ rows. length rows) c.in_ok-push.ensures.items in
+      omega (arith, more, items, c.rows.invariant.long);
   rows = λ d.
       let is = c.deref-index-items.result.now in
       let n = c.rows.index-index in
@@ -48,4 +53,5 @@ returns-clause-rows g c =
     c.self.invariant.each (omega (arith, many, c.rows.invariant.long, c.rows.auto.index-index-end, c.rows-test.false))
     (λ d. c.rows.invariant.rows d
     ∙ (λ i. map (λ n. get_or (c.rows-rows.ensures.rows i) n d) ((all ∙ is) i))) in
-    subst (λ v. IsPermutation (filter (λ e. g.A.Amount.is_some e.1) v.entries) c.rows.listed.items) c.self.view_is listed
+    subst (λ v. IsPermutation (filter (λ e. g.A.Amount.is_some e.1) v.entries) c.rows.listed.items) c.self.view_is
+    listed

@@ -22,8 +22,8 @@ pub invariant_of-self-then-is_some : goal.invariant_of-self-then-is_some
 invariant_of-self-then-is_some g c =
     let place = has_place g (goal.at.invariant_of-self-then-is_some g c).In_ok-push in
     let rows = c.self.inside.rows.entries ++ (c.args.key, c.args.amount) ∷ [] in
-    let knows = knows_pushed g.A.Amount.is_some c.self.inside.rows.entries c.self.inside.some.items c.self.inside.some.cap
-    c.self.invariant (c.args.key, c.args.amount) place (sym c.is_some.ensures ∙ c.if-is_some.true) in
+    let knows = knows_pushed g.A.Amount.is_some c.self.inside.rows.entries c.self.inside.some.items
+    c.self.inside.some.cap c.self.invariant (c.args.key, c.args.amount) place (sym c.is_some.ensures ∙ c.if-is_some.true) in
     subst (λ rows. Knows g.A.Amount.is_some rows c.push_reserved.new.self.items c.push_reserved.new.self.cap)
     (sym c.in_ok-push.ensures.entries)
     (subst (λ is. Knows g.A.Amount.is_some rows is c.push_reserved.new.self.cap)

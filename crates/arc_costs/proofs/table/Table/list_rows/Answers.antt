@@ -10,8 +10,8 @@ use Rattle.arc_costs.proofs.table.Table.list_rows.Goals.{After-list_rows, else-i
 apart : (g : Over) (c : After-list_rows g) → IsDistinct g.K.PartialEq.eq (keys_of c.args.self.now.rows)
 apart g c =
     subst (λ v. IsDistinct g.K.PartialEq.eq (keys_of v.rows)) c.self.view_is
-    (distinct_rows g.K.PartialEq.eq g.met.K.Eq.laws c.self.inside.known.entries c.self.inside.newest c.list_rows.ensures.apart
-    g.A.Amount.is_whole c.self.invariant)
+    (distinct_rows g.K.PartialEq.eq g.met.K.Eq.laws c.self.inside.known.entries c.self.inside.newest
+    c.list_rows.ensures.apart g.A.Amount.is_whole c.self.invariant)
 
 pub returns-in_err-rows-clause-apart : goal.returns-in_err-rows-clause-apart
 returns-in_err-rows-clause-apart g c = apart g (goal.at.returns-in_err-rows-clause-apart g c).After-list_rows
