@@ -2,10 +2,11 @@
 use Rattle.std.proofs.Common.{◌≡◌, ℕ, ◌+◌, ◌≤◌, ◌⊎◌, Bool, true, false, List, refl, sym, ap, subst, ◌∙◌, cond, arith}
 use Rattle.std.proofs.Common.{Result, Ok, Err, Some}
 use Rattle.std.specs.Prelude.{IfOk, OnErr}
+use Rattle.std.specs.FinMap as map
 use Rattle.std.specs.Option.{option_and_then}
 use Rattle.event_costs.specs.declared.numbers.ThreadNo.{ThreadNo}
 use Rattle.rv_step.specs.declared.code.Code.{Code}
-use Rattle.rv_step.specs.Code.{IsCodeOf, instruction_at, kept_instruction}
+use Rattle.rv_step.specs.Code.{IsCodeOf, instruction_at}
 use Rattle.rv_decode.specs.Decoded.{decode}
 use Rattle.rv_decode.specs.declared.instr.Instr.{Instr}
 use Rattle.guest_sys.specs.CallRow.{Calls}
@@ -37,8 +38,8 @@ code-turned code f threads w after is stands =
 pub code-called : (old new : Code) (reach : Reach) (step : Result (Effect × Kernel) ℕ) (s : Kernel) (result : Result Effect SysEnd)
     (now : Kernel) → Calls step s result now → OnErr result (now ≡ s)
     → IfOk step (λ done. IsWithin reach s.guest.mem done.1.guest.mem)
-    → ((q : ℕ) (i : Instr) → kept_instruction new q ≡ Some i → kept_instruction old q ≡ Some i)
-    → ((q : ℕ) (i : Instr) → kept_instruction new q ≡ Some i → (q + 4 ≤ reach.address) ⊎ (reach.address + reach.bytes ≤ q))
+    → ((q : ℕ) (i : Instr) → map.get new q ≡ Some i → map.get old q ≡ Some i)
+    → ((q : ℕ) (i : Instr) → map.get new q ≡ Some i → (q + 4 ≤ reach.address) ⊎ (reach.address + reach.bytes ≤ q))
     → IsCodeOf old s.guest.mem → IsCodeOf new now.guest.mem
 unfolding instruction_at
 code-called old new reach step s (Ok effect) now calls refused within fewer apart code =

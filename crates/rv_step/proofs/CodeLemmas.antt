@@ -1,288 +1,79 @@
--- What is kept, as places change.
-use Rattle.std.proofs.Common.{◌≡◌, ℕ, zero, suc, refl, sym, ap, ◌∙◌, ◌/◌, ◌%◌, ◌<◌, ◌≤◌, ◌+◌}
-use Rattle.std.proofs.Common.{arith, ◌⊎◌, ◌++◌, ◌==◌, Bool, true, false, cond, inl, inr, add-one, drop, length, replicate, subst, List, [], ◌∷◌}
+-- What is kept for an address, by the map that a table makes.
+use Rattle.std.proofs.Common.{◌≡◌, ℕ, zero, suc, refl, sym, ap, ◌∙◌, ◌<◌, ◌+◌, arith, ◌⊎◌, inl, inr, List, [], ◌∷◌}
 use Rattle.std.proofs.lemmas.Bool.{cond-false, cond-true, eq-eqb, ne_eqb}
-use Rattle.std.proofs.lemmas.Option.{slice_get_read}
-use Rattle.std.proofs.Math.ListN.{drop_of_length-le, get_or, set}
-use Rattle.std.specs.Prelude.{Option, Some, None, slice_get}
+use Rattle.std.specs.Prelude.{Some, None, slice_get}
+use Rattle.std.specs.Cmp.{nat_cmp_total, unsigned_tied}
+use Rattle.std.specs.FinMap as map
 use Rattle.std.specs.Option.{option_and_then}
+use Rattle.std.specs.Ordering.{nat_cmp}
 use Rattle.rv_decode.specs.declared.instr.Instr.{Instr}
-use Rattle.rv_step.specs.Code.{found_at, kept_instruction}
 use Rattle.rv_step.specs.Place.{place_of}
 use Rattle.rv_step.specs.declared.code.Code.{Code}
+use Rattle.rv_step.specs.declared.instr_table.InstrTable.{InstrTable}
 use Rattle.rv_step.specs.declared.kept_instr.KeptInstr.{KeptInstr}
-use Rattle.rv_step.specs.inner.Places.{AreNoted, is_noted}
+use Rattle.rv_step.specs.inner.Table.{code_of, entries_from, found_at, kept_instruction}
 
 same_or_not : (a b : ℕ) → (a ≡ b) ⊎ ¬ (a ≡ b)
 same_or_not a b = grind arith
 
-pub place-below : (pc p : ℕ) → p ≡ pc / 4 % 65536 → p < 65536
-place-below pc p is = omega (arith, is)
-
-found-same : (pc : ℕ) (f : KeptInstr) → f.pc ≡ pc → found_at pc f ≡ Some f.instr
-found-same pc f at = grind arith
-
-found-other : (pc : ℕ) (f : KeptInstr) (i : Instr) → found_at pc f ≡ Some i → f.pc ≡ pc
-found-other pc f i is = grind arith
-
-found-elsewhere : (pc : ℕ) (f : KeptInstr) → ¬ (f.pc ≡ pc) → found_at pc f ≡ None
-found-elsewhere pc f apart = grind arith
-
--- what is in a place that isn't its own is found by no address
-found-vacant : (pc place : ℕ) (f : KeptInstr) → place_of pc ≡ place → ¬ (place_of f.pc ≡ place) → found_at pc f ≡ None
-found-vacant pc place f here vacant =
-    found-elsewhere pc f (λ same. vacant (ap (λ (n : ℕ). place_of n) same ∙ here))
-
--- what a list gives after one place was set
-get-here : (xs : List KeptInstr) (p : ℕ) (f : KeptInstr) → p < length xs → slice_get (set xs p f) p ≡ Some f
-get-here [] p f within = absurd (omega (arith, within))
-get-here (x ∷ xs) zero f within = refl
-get-here (x ∷ xs) (suc p) f within = get-here xs p f (omega (arith, within))
-
-get-there : (xs : List KeptInstr) (p i : ℕ) (f : KeptInstr) → ¬ (i ≡ p) → slice_get (set xs p f) i ≡ slice_get xs i
-get-there [] p i f apart = refl
-get-there (x ∷ xs) zero zero f apart = absurd (apart refl)
-get-there (x ∷ xs) zero (suc i) f apart = refl
-get-there (x ∷ xs) (suc p) zero f apart = refl
-get-there (x ∷ xs) (suc p) (suc i) f apart = get-there xs p i f (λ same. apart (ap suc same))
-
-get-within : (xs : List KeptInstr) (p : ℕ) (f : KeptInstr) → slice_get xs p ≡ Some f → p < length xs
-get-within [] p f is = cc
-get-within (x ∷ xs) zero f is = omega arith
-get-within (x ∷ xs) (suc p) f is = let within = get-within xs p f is in omega (arith, within)
-
--- where what stands is noted, as a place is left
-pub noted-without : (pcs : List ℕ) (first last p : ℕ) (xs : List KeptInstr) (f : KeptInstr) → p < length xs
-    → ¬ (place_of f.pc ≡ p) → AreNoted pcs first last xs → AreNoted pcs first last (set xs p f)
-noted-without pcs first last p xs f within vacant noted place g is own = by (same_or_not place p)
+-- a place whose instruction isn't of this address changes nothing of what is found
+find-other : (q place : ℕ) (f : KeptInstr) (fs : List KeptInstr) → ¬ (place_of f.pc ≡ place) ⊎ ¬ (q ≡ f.pc)
+    → map.find nat_cmp q (entries_from place (f ∷ fs)) ≡ map.find nat_cmp q (entries_from (place + 1) fs)
+find-other q place f fs (inl vacant) = ap (map.find nat_cmp q) (cond-false _ _ _ (ne_eqb (place_of f.pc) place vacant))
+find-other q place f fs (inr apart) = by (same_or_not (place_of f.pc) place)
   where
-    by : (place ≡ p) ⊎ ¬ (place ≡ p) → (is_noted place pcs ≡ true) × (first ≤ g.pc) × (g.pc ≤ last)
-    by (inl here) =
-        let at : Some f ≡ Some g = sym (get-here xs p f within)
-        ∙ ap (λ (i : ℕ). slice_get (set xs p f) i) (sym here) ∙ is in
-        let same : f ≡ g = cc in
-        absurd (vacant (ap (λ (h : KeptInstr). place_of h.pc) same ∙ own ∙ here))
-    by (inr there) = noted place g (sym (get-there xs p place f there) ∙ is) own
+    by : (place_of f.pc ≡ place) ⊎ ¬ (place_of f.pc ≡ place)
+        → map.find nat_cmp q (entries_from place (f ∷ fs)) ≡ map.find nat_cmp q (entries_from (place + 1) fs)
+    by (inl own) =
+        ap (map.find nat_cmp q) (cond-true _ _ _ (eq-eqb (place_of f.pc) place own))
+        ∙ cond-false _ _ _ (unsigned_tied q f.pc ∙ ne_eqb q f.pc apart)
+    by (inr vacant) = ap (map.find nat_cmp q) (cond-false _ _ _ (ne_eqb (place_of f.pc) place vacant))
 
--- as the place of the first address is left
-pub noted-next : (pc : ℕ) (pcs : List ℕ) (first last p : ℕ) (xs : List KeptInstr) (f : KeptInstr) → p < length xs
-    → place_of pc ≡ p → ¬ (place_of f.pc ≡ p) → AreNoted (pc ∷ pcs) first last xs → AreNoted pcs first last (set xs p f)
-noted-next pc pcs first last p xs f within of_pc vacant noted place g is own = by (same_or_not place p)
+-- the places behind an address's own have nothing of it
+find-behind : (q place : ℕ) (fs : List KeptInstr) → place_of q < place → map.find nat_cmp q (entries_from place fs) ≡ None
+find-behind q place [] behind = refl
+find-behind q place (f ∷ fs) behind =
+    find-other q place f fs (other (same_or_not q f.pc)) ∙ find-behind q (place + 1) fs (omega (arith, behind))
   where
-    after : ¬ (place ≡ p) → is_noted place (pc ∷ pcs) ≡ true → is_noted place pcs ≡ true
-    after there one =
-        sym (cond-false _ _ _ (ne_eqb (place_of pc) place (λ same. there (sym same ∙ of_pc)))) ∙ one
+    other : (q ≡ f.pc) ⊎ ¬ (q ≡ f.pc) → ¬ (place_of f.pc ≡ place) ⊎ ¬ (q ≡ f.pc)
+    other (inl same) = inl (λ own. let at : place_of q ≡ place = ap place_of same ∙ own in omega (arith, at, behind))
+    other (inr apart) = inr apart
 
-    by : (place ≡ p) ⊎ ¬ (place ≡ p) → (is_noted place pcs ≡ true) × (first ≤ g.pc) × (g.pc ≤ last)
-    by (inl here) =
-        let at : Some f ≡ Some g = sym (get-here xs p f within)
-        ∙ ap (λ (i : ℕ). slice_get (set xs p f) i) (sym here) ∙ is in
-        let same : f ≡ g = cc in
-        absurd (vacant (ap (λ (h : KeptInstr). place_of h.pc) same ∙ own ∙ here))
-    by (inr there) =
-        let (of_one, low, high) = noted place g (sym (get-there xs p place f there) ∙ is) own in
-        (after there of_one, low, high)
-
-drop-at : (pcs : List ℕ) (at d : ℕ) → at < length pcs → drop at pcs ≡ get_or pcs at d ∷ drop (suc at) pcs
-drop-at [] at d within = absurd (omega (arith, within))
-drop-at (x ∷ pcs) zero d within = refl
-drop-at (x ∷ pcs) (suc at) d within = drop-at pcs at d (omega (arith, within))
-
-pub noted-from : (pcs : List ℕ) (at pc first last p : ℕ) (xs : List KeptInstr) (f : KeptInstr) → at < length pcs
-    → pc ≡ get_or pcs at pc → p ≡ place_of pc → p < length xs → ¬ (place_of f.pc ≡ p)
-    → AreNoted (drop at pcs) first last xs → AreNoted (drop (at + 1) pcs) first last (set xs p f)
-noted-from pcs at pc first last p xs f within is here there vacant noted =
-    subst (λ (n : ℕ). AreNoted (drop n pcs) first last (set xs p f)) (sym (add-one at))
-    (noted-next pc (drop (suc at) pcs) first last p xs f there (sym here) vacant
-    (subst (λ (ps : List ℕ). AreNoted ps first last xs)
-    (drop-at pcs at pc within ∙ ap (λ (q : ℕ). q ∷ drop (suc at) pcs) (sym is)) noted))
-
--- as a noted place is filled
-pub noted-filled : (pcs : List ℕ) (first last p : ℕ) (xs : List KeptInstr) (f : KeptInstr) → p < length xs
-    → p ≡ place_of f.pc → is_noted (place_of f.pc) pcs ≡ true → first ≤ f.pc → f.pc ≤ last
-    → AreNoted pcs first last xs → AreNoted pcs first last (set xs p f)
-noted-filled pcs first last p xs f within there_is of_one low high noted place g is own = by (same_or_not place p)
+-- what is found among the places is what stands at the address's own
+find-place : (q place i : ℕ) (fs : List KeptInstr) → place_of q ≡ place + i
+    → map.find nat_cmp q (entries_from place fs) ≡ option_and_then (found_at q) (slice_get fs i)
+find-place q place i [] at = refl
+find-place q place zero (f ∷ fs) at = by (same_or_not q f.pc)
   where
-    by : (place ≡ p) ⊎ ¬ (place ≡ p) → (is_noted place pcs ≡ true) × (first ≤ g.pc) × (g.pc ≤ last)
-    by (inl here) =
-        let at : Some f ≡ Some g = sym (get-here xs p f within)
-        ∙ ap (λ (i : ℕ). slice_get (set xs p f) i) (sym here) ∙ is in
-        let same : f ≡ g = cc in (
-          ap (λ (i : ℕ). is_noted i pcs) (here ∙ there_is) ∙ of_one,
-          subst (λ (h : KeptInstr). first ≤ h.pc) same low,
-          subst (λ (h : KeptInstr). h.pc ≤ last) same high,
-        )
-    by (inr there) = noted place g (sym (get-there xs p place f there) ∙ is) own
+    own : q ≡ f.pc → place_of f.pc ≡ place
+    own same = let at_own : place_of q ≡ place_of f.pc = ap place_of same in omega (arith, at, at_own)
 
--- as an address more is noted
-or_true : (b rest : Bool) → rest ≡ true → cond b true rest ≡ true
-or_true true rest is = refl
-or_true false rest is = is
-
-pub last-noted : (pcs : List ℕ) (pc : ℕ) → is_noted (place_of pc) (pcs ++ pc ∷ []) ≡ true
-last-noted [] pc = cond-true _ _ _ (eq-eqb (place_of pc) (place_of pc) refl)
-last-noted (x ∷ pcs) pc = or_true (place_of x == place_of pc) _ (last-noted pcs pc)
-
-still_true : (b one more : Bool) → (one ≡ true → more ≡ true) → cond b true one ≡ true → cond b true more ≡ true
-still_true true one more goes_on is = refl
-still_true false one more goes_on is = goes_on is
-
-noted-more : (pcs : List ℕ) (pc place : ℕ) → is_noted place pcs ≡ true → is_noted place (pcs ++ pc ∷ []) ≡ true
-noted-more [] pc place none = cc
-noted-more (x ∷ pcs) pc place one =
-    still_true (place_of x == place) (is_noted place pcs) (is_noted place (pcs ++ pc ∷ [])) (noted-more pcs pc place) one
-
-pub noted-last : (pcs qs : List ℕ) (b : Bool) (pc : ℕ) → qs ≡ cond b (pcs ++ pc ∷ []) pcs → b ≡ true
-    → is_noted (place_of pc) qs ≡ true
-noted-last pcs qs b pc is pushed =
-    ap (is_noted (place_of pc)) (is ∙ cond-true _ _ _ pushed) ∙ last-noted pcs pc
-
-pub noted-pushed : (pcs : List ℕ) (first last pc : ℕ) (xs : List KeptInstr) → AreNoted pcs first last xs
-    → AreNoted (pcs ++ pc ∷ []) first last xs
-noted-pushed pcs first last pc xs noted place g is own =
-    let (of_one, low, high) = noted place g is own in (noted-more pcs pc place of_one, low, high)
-
-pub noted-push : (pcs qs : List ℕ) (b : Bool) (first last pc : ℕ) (xs : List KeptInstr)
-    → qs ≡ cond b (pcs ++ pc ∷ []) pcs → AreNoted pcs first last xs → AreNoted qs first last xs
-noted-push pcs qs true first last pc xs is noted =
-    subst (λ (ps : List ℕ). AreNoted ps first last xs) (sym is) (noted-pushed pcs first last pc xs noted)
-noted-push pcs qs false first last pc xs is noted =
-    subst (λ (ps : List ℕ). AreNoted ps first last xs) (sym is) noted
-
--- as the bounds are apart
-pub noted-wider : (pcs : List ℕ) (first last low high : ℕ) (xs : List KeptInstr) → low ≤ first → last ≤ high
-    → AreNoted pcs first last xs → AreNoted pcs low high xs
-noted-wider pcs first last low high xs below above noted place g is own =
-    let (of_one, from, to) = noted place g is own in (of_one, omega (arith, below, from), omega (arith, above, to))
-
--- where nothing is noted, bounds say nothing
-pub none-noted : (pcs : List ℕ) (first last low high : ℕ) (xs : List KeptInstr) → pcs ≡ [] → AreNoted pcs first last xs
-    → AreNoted pcs low high xs
-none-noted pcs first last low high xs empty noted place g is own =
-    let one : is_noted place [] ≡ true
-    = subst (λ (ps : List ℕ). is_noted place ps ≡ true) empty (noted place g is own).0 in
-    cc
-
--- behind the last address none is left
-pub noted-end : (pcs qs : List ℕ) (n first last low high : ℕ) (xs : List KeptInstr) → qs ≡ [] → length pcs ≤ n
-    → AreNoted (drop n pcs) first last xs → AreNoted qs low high xs
-noted-end pcs qs n first last low high xs empty end noted =
-    none-noted qs first last low high xs empty
-    (subst (λ (ps : List ℕ). AreNoted ps first last xs) (drop_of_length-le pcs end ∙ sym empty) noted)
-
--- where each place holds the same, it is noted by its own address
-get-replicated : (n i : ℕ) (f g : KeptInstr) → slice_get (replicate n f) i ≡ Some g → f ≡ g
-get-replicated zero i f g is = cc
-get-replicated (suc n) zero f g is = cc
-get-replicated (suc n) (suc i) f g is = get-replicated n i f g is
-
-pub noted-first : (qs : List ℕ) (n : ℕ) (xs : List KeptInstr) (f : KeptInstr) → qs ≡ f.pc ∷ [] → xs ≡ replicate n f
-    → AreNoted qs f.pc f.pc xs
-noted-first qs n xs f one all place g is own =
-    let same : f ≡ g = get-replicated n place f g (ap (λ (ys : List KeptInstr). slice_get ys place) (sym all) ∙ is) in (
-      ap (is_noted place) one
-          ∙ cond-true _ _ _ (eq-eqb (place_of f.pc) place (ap (λ (h : KeptInstr). place_of h.pc) same ∙ own)),
-      subst (λ (h : KeptInstr). f.pc ≤ h.pc) same (omega arith),
-      subst (λ (h : KeptInstr). h.pc ≤ f.pc) same (omega arith),
-    )
-
--- nothing is kept where nothing is noted
-pub none-kept : (code : Code) (pc : ℕ) → code.filled.items ≡ [] → kept_instruction code pc ≡ None
-unfolding kept_instruction
-none-kept code pc none = by (slice_get code.places.items (place_of pc)) refl
+    by : (q ≡ f.pc) ⊎ ¬ (q ≡ f.pc) → map.find nat_cmp q (entries_from place (f ∷ fs)) ≡ found_at q f
+    by (inl same) =
+        ap (map.find nat_cmp q) (cond-true _ _ _ (eq-eqb (place_of f.pc) place (own same)))
+        ∙ cond-true _ _ _ (unsigned_tied q f.pc ∙ eq-eqb q f.pc same)
+        ∙ sym (cond-true _ _ _ (eq-eqb f.pc q (sym same)))
+    by (inr apart) =
+        find-other q place f fs (inr apart) ∙ find-behind q (place + 1) fs (omega (arith, at))
+        ∙ sym (cond-false _ _ _ (ne_eqb f.pc q (λ same. apart (sym same))))
+find-place q place (suc i) (f ∷ fs) at =
+    find-other q place f fs (other (same_or_not q f.pc)) ∙ find-place q (place + 1) i fs (omega (arith, at))
   where
-    by : (o : Option KeptInstr) → slice_get code.places.items (place_of pc) ≡ o
-        → option_and_then (found_at pc) o ≡ None
-    by None is = refl
-    by (Some f) is =
-        found-vacant pc (place_of pc) f refl
-        (λ own.
-        let one : is_noted (place_of pc) [] ≡ true
-        = subst (λ (pcs : List ℕ). is_noted (place_of pc) pcs ≡ true) none (code.noted (place_of pc) f is own).0 in
-        cc)
+    other : (q ≡ f.pc) ⊎ ¬ (q ≡ f.pc) → ¬ (place_of f.pc ≡ place) ⊎ ¬ (q ≡ f.pc)
+    other (inl same) = inl (λ own. let here : place_of q ≡ place = ap place_of same ∙ own in omega (arith, at, here))
+    other (inr apart) = inr apart
 
--- what is kept stands within the bounds
-pub kept-within : (code : Code) (pc : ℕ) (i : Instr) → kept_instruction code pc ≡ Some i → (code.first ≤ pc) × (pc ≤ code.last)
-unfolding kept_instruction
-kept-within code pc i given = by (slice_get code.places.items (place_of pc)) refl given
-  where
-    by : (o : Option KeptInstr) → slice_get code.places.items (place_of pc) ≡ o
-        → option_and_then (found_at pc) o ≡ Some i → (code.first ≤ pc) × (pc ≤ code.last)
-    by None is none = cc
-    by (Some f) is found =
-        let here : f.pc ≡ pc = found-other pc f i found in
-        let (of_one, low, high) = code.noted (place_of pc) f is (ap place_of here) in
-        (omega (arith, low, here), omega (arith, high, here))
+-- what the map has for an address is what the table keeps for it
+pub get-code : (table : InstrTable) (code : Code) → code_of table ≡ code → (q : ℕ) → map.get code q ≡ kept_instruction table q
+unfolding code_of kept_instruction
+get-code table code is q =
+    ap (λ (c : Code). map.get c q) (sym is)
+    ∙ map.get-from_entries nat_cmp_total (entries_from 0 table.places.items) q
+    ∙ find-place q 0 (place_of q) table.places.items (omega arith)
 
-pub apart-below : (code : Code) (a n : ℕ) → a + n ≤ code.first → (q : ℕ) (i : Instr) → kept_instruction code q ≡ Some i
-    → (q + 4 ≤ a) ⊎ (a + n ≤ q)
-apart-below code a n below q i given = inr (omega (arith, below, (kept-within code q i given).0))
-
-pub apart-above : (code : Code) (a n : ℕ) → code.last + 4 ≤ a → (q : ℕ) (i : Instr) → kept_instruction code q ≡ Some i
-    → (q + 4 ≤ a) ⊎ (a + n ≤ q)
-apart-above code a n above q i given = inl (omega (arith, above, (kept-within code q i given).1))
-
-pub kept-here : (old new : Code) (p : ℕ) (f : KeptInstr) (q : ℕ) → new.places.items ≡ set old.places.items p f
-    → p < length old.places.items → place_of q ≡ p → kept_instruction new q ≡ found_at q f
-unfolding kept_instruction
-kept-here old new p f q is within here =
-    ap (λ (xs : List KeptInstr). option_and_then (found_at q) (slice_get xs (place_of q))) is
-    ∙ ap (λ (i : ℕ). option_and_then (found_at q) (slice_get (set old.places.items p f) i)) here
-    ∙ ap (option_and_then (found_at q)) (get-here old.places.items p f within)
-
-pub kept-there : (old new : Code) (p : ℕ) (f : KeptInstr) (q : ℕ) → new.places.items ≡ set old.places.items p f
-    → ¬ (place_of q ≡ p) → kept_instruction new q ≡ kept_instruction old q
-unfolding kept_instruction
-kept-there old new p f q is there =
-    ap (λ (xs : List KeptInstr). option_and_then (found_at q) (slice_get xs (place_of q))) is
-    ∙ ap (option_and_then (found_at q)) (get-there old.places.items p (place_of q) f there)
-
--- what is kept after something was found at an address
-pub kept-found : (old new : Code) (p pc : ℕ) (f : KeptInstr) → new.places.items ≡ set old.places.items p f
-    → p ≡ place_of pc → length old.places.items ≡ 65536 → f.pc ≡ pc → kept_instruction new pc ≡ Some f.instr
-kept-found old new p pc f is here whole at =
-    kept-here old new p f pc is (omega (arith, whole, here)) (sym here) ∙ found-same pc f at
-
-pub kept-others : (old new : Code) (p : ℕ) (f : KeptInstr) → new.places.items ≡ set old.places.items p f
-    → length old.places.items ≡ 65536 → p < 65536 → (q : ℕ) (i : Instr) → kept_instruction new q ≡ Some i
-    → (q ≡ f.pc) ⊎ (kept_instruction old q ≡ Some i)
-kept-others old new p f is whole within q i given = by (same_or_not (place_of q) p)
-  where
-    by : (place_of q ≡ p) ⊎ ¬ (place_of q ≡ p) → (q ≡ f.pc) ⊎ (kept_instruction old q ≡ Some i)
-    by (inl here) =
-        inl (sym (found-other q f i (sym (kept-here old new p f q is (omega (arith, whole)) here) ∙ given)))
-    by (inr there) = inr (sym (kept-there old new p f q is there) ∙ given)
-
--- what is kept after nothing stands at a place any more
-pub kept-fewer : (old new : Code) (p : ℕ) (f : KeptInstr) → new.places.items ≡ set old.places.items p f
-    → length old.places.items ≡ 65536 → p < 65536 → ¬ (place_of f.pc ≡ p)
-    → (q : ℕ) (i : Instr) → kept_instruction new q ≡ Some i → kept_instruction old q ≡ Some i
-kept-fewer old new p f is whole within vacant q i given = by (same_or_not (place_of q) p)
-  where
-    by : (place_of q ≡ p) ⊎ ¬ (place_of q ≡ p) → kept_instruction old q ≡ Some i
-    by (inl here) =
-        let gone = kept-here old new p f q is (omega (arith, whole)) here ∙ found-vacant q p f here vacant in
-        cc
-    by (inr there) = sym (kept-there old new p f q is there) ∙ given
-
-pub kept-gone : (old new : Code) (p pc : ℕ) (f : KeptInstr) → new.places.items ≡ set old.places.items p f
-    → p ≡ place_of pc → length old.places.items ≡ 65536 → ¬ (place_of f.pc ≡ p) → kept_instruction new pc ≡ None
-kept-gone old new p pc f is here whole vacant =
-    kept-here old new p f pc is (omega (arith, whole, here)) (sym here) ∙ found-vacant pc p f (sym here) vacant
-
--- what is kept for an address, from what stands at its place
-pub kept-read : (code : Code) (p pc : ℕ) (f : KeptInstr) → f ≡ get_or code.places.items p f → p ≡ place_of pc
-    → kept_instruction code pc ≡ found_at pc f
-unfolding kept_instruction
-kept-read code p pc f is here =
-    ap (λ (i : ℕ). option_and_then (found_at pc) (slice_get code.places.items i)) (sym here)
-    ∙ ap (option_and_then (found_at pc))
-    (slice_get_read code.places.items 65536 p f (sym code.whole) (place-below pc p here) is)
-
-pub read-same : (code : Code) (p pc : ℕ) (f : KeptInstr) → f ≡ get_or code.places.items p f → p ≡ place_of pc
-    → f.pc ≡ pc → kept_instruction code pc ≡ Some f.instr
-read-same code p pc f is here at = kept-read code p pc f is here ∙ found-same pc f at
-
-pub read-elsewhere : (code : Code) (p pc : ℕ) (f : KeptInstr) → f ≡ get_or code.places.items p f → p ≡ place_of pc
-    → ¬ (f.pc ≡ pc) → kept_instruction code pc ≡ None
-read-elsewhere code p pc f is here apart = kept-read code p pc f is here ∙ found-elsewhere pc f apart
+-- what one of two tables keeps as the other is of its map too
+pub code-fewer : (old new : InstrTable) (code after : Code) → code_of old ≡ code → code_of new ≡ after
+    → ((q : ℕ) (i : Instr) → kept_instruction new q ≡ Some i → kept_instruction old q ≡ Some i)
+    → (q : ℕ) (i : Instr) → map.get after q ≡ Some i → map.get code q ≡ Some i
+code-fewer old new code after before is fewer q i given =
+    get-code old code before q ∙ fewer q i (sym (get-code new after is q) ∙ given)

@@ -2,4 +2,5 @@ pub mod AccessLemmas
 pub mod CauseLemmas
 pub mod PromiseLemmas
 pub mod StoreLemmas
+pub mod TableLemmas
 pub mod CodeLemmas

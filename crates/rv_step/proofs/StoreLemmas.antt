@@ -6,6 +6,7 @@ use Rattle.std.specs.Option.{option_and_then, option_map}
 use Rattle.event_costs.specs.declared.event.Branch.{Branch}
 use Rattle.event_costs.specs.declared.event.Touch.{Touch}
 use Rattle.event_costs.specs.declared.event.Touch.TheVariants as touch
+use Rattle.std.specs.FinMap as map
 use Rattle.guest_mem.specs.Memory.{Memory, prot_read, prot_write, prot_exec, bytes_of, load_at, may, store_at}
 use Rattle.guest_mem.proofs.Accesses.{elsewhere-stored}
 use Rattle.rv_decode.specs.Decoded.{decode}
@@ -17,7 +18,7 @@ use Rattle.rv_decode.specs.declared.instr.Op.TheVariants.{SLLI, SRLI, SRAI, ADD,
 use Rattle.rv_decode.specs.declared.instr.Op.TheVariants.{AND, MUL, MULH, MULHSU, MULHU, DIV, DIVU, REM, REMU, FENCE}
 use Rattle.rv_decode.specs.declared.instr.Op.TheVariants.{ECALL, EBREAK, LR, SC, AMOSWAP, AMOADD, AMOXOR, AMOAND, AMOOR}
 use Rattle.rv_decode.specs.declared.instr.Op.TheVariants.{AMOMIN, AMOMAX, AMOMINU, AMOMAXU}
-use Rattle.rv_step.specs.Code.{IsCodeOf, instruction_at, kept_instruction}
+use Rattle.rv_step.specs.Code.{IsCodeOf, instruction_at}
 use Rattle.rv_step.specs.Effects.{effect_by, effect_of, fetched_effect, step_of, word_effect}
 use Rattle.rv_step.specs.Forms.{HartState, Outcome, register, address, offset, is_held, retires, faults, misaligned, passes}
 use Rattle.rv_step.specs.Forms.{computes, jumps, branches, reads, loads, stores, reserves, conditional}
@@ -183,8 +184,8 @@ effect-leaves i s = effect_by-leaves i.op i s
 
 -- what is kept after it was told apart from a store stands in the memory after it
 pub code-stored : (old new : Code) (m n : Memory) (a : ℕ) → IsStoredAt a m n
-    → ((q : ℕ) (i : Instr) → kept_instruction new q ≡ Some i → kept_instruction old q ≡ Some i)
-    → ((q : ℕ) (i : Instr) → q < 2 ^ 32 → q % 4 ≡ 0 → kept_instruction new q ≡ Some i → (q + 4 ≤ a) ⊎ (a + 4 ≤ q))
+    → ((q : ℕ) (i : Instr) → map.get new q ≡ Some i → map.get old q ≡ Some i)
+    → ((q : ℕ) (i : Instr) → q < 2 ^ 32 → q % 4 ≡ 0 → map.get new q ≡ Some i → (q + 4 ≤ a) ⊎ (a + 4 ≤ q))
     → IsCodeOf old m → IsCodeOf new n
 unfolding instruction_at
 code-stored old new m n a put fewer apart code = λ pc i low at_word is.
@@ -199,7 +200,7 @@ code-stored old new m n a put fewer apart code = λ pc i low at_word is.
 
 -- what is kept stands in memory after an instruction, after which it was told of what was stored
 pub kept-on : (old new : Code) (i : Instr) (s : HartState) (o : Outcome) → o ≡ effect_of i s → IsCodeOf old s.memory
-    → ((q : ℕ) (i : Instr) → kept_instruction new q ≡ Some i → kept_instruction old q ≡ Some i)
+    → ((q : ℕ) (i : Instr) → map.get new q ≡ Some i → map.get old q ≡ Some i)
     → ((m n : Memory) → IsStoredBy o.stepped m n → IsCodeOf old m → IsCodeOf new n) → IsCodeOf new o.after.memory
 kept-on old new i s o given code fewer told =
     by (subst (λ (q : Outcome). Leaves (may_store i.op) s q) (sym given) (effect-leaves i s))

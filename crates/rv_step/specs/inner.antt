@@ -2,4 +2,5 @@
 pub mod Combined
 pub mod Places
 pub mod Stored
+pub mod Table
 pub mod Widths

@@ -2,12 +2,13 @@
 
 ghost use Rattle.std.specs.Prelude.{◌≡◌, ◌≤◌, ◌+◌, ◌-◌, ◌%◌, ◌^◌, ℕ, Some, slice_index};
 ghost use Rattle.std.specs.Prelude.{IfSome};
+ghost use Rattle.std.specs.FinMap as map;
 ghost use Rattle.std.specs.Result.{result_ok};
 ghost use Rattle.guest_mem.specs.Memory.{Memory, prot_exec, load_at};
 ghost use Rattle.rv_decode.specs.declared.instr.Instr.{Instr as InstrValue};
 ghost use Rattle.rv_decode.specs.Encoded.{HasRegisters};
 ghost use Rattle.rv_step.specs.Causes.{ending, ending_of, flow_at};
-ghost use Rattle.rv_step.specs.Code.{IsCodeOf, instruction_at, kept_instruction};
+ghost use Rattle.rv_step.specs.Code.{IsCodeOf, instruction_at};
 ghost use Rattle.rv_step.specs.inner.Stored.{IsStoredBy, may_store};
 ghost use Rattle.rv_step.specs.Effects.{effect_of, step_of};
 ghost use Rattle.rv_step.specs.Forms.{outcome, hart_state};
@@ -156,7 +157,7 @@ fn may_store(op: Op) -> bool
 /// What stood where an instruction has stored isn't kept any more.
 #[inline(always)]
 fn forget_stored(code: &mut Code, stepped: &Stepped)
-    ensures fewer { (q : ℕ) (i : InstrValue) → kept_instruction code.new q ≡ Some i → kept_instruction code.old q ≡ Some i }
+    ensures fewer { (q : ℕ) (i : InstrValue) → map.get code.new q ≡ Some i → map.get code.old q ≡ Some i }
     ensures stored { (m n : Memory) → IsStoredBy stepped.now m n → IsCodeOf code.old m → IsCodeOf code.new n }
 {
     if let Stepped::Retired(done) = stepped {

@@ -1,14 +1,15 @@
-//! How instructions are kept by where they stand.
+//! How instructions are kept in their table.
 
 ghost use Rattle.std.specs.Prelude.{◌≡◌, ◌+◌, ◌<◌, ◌≤◌, ◌%◌, ◌^◌, ◌⊎◌, ℕ, [], IfOk, IfSome, None, Some, true};
 ghost use Rattle.std.specs.Vec.{vec_len};
 ghost use Rattle.rv_decode.specs.Encoded.{HasRegisters};
 ghost use Rattle.rv_decode.specs.declared.instr.Instr.{Instr as InstrValue};
-ghost use Rattle.rv_step.specs.Code.{instruction_at, kept_instruction};
+ghost use Rattle.rv_step.specs.Code.{instruction_at};
 ghost use Rattle.rv_step.specs.Place.{place_of};
 ghost use Rattle.rv_step.specs.inner.Places.{is_noted};
+ghost use Rattle.rv_step.specs.inner.Table.{kept_instruction};
 
-use crate::code::Code;
+use crate::instr_table::InstrTable;
 use crate::kept_instr::KeptInstr;
 use guest_mem::GuestMem;
 use rv_decode::{Instr, Op, decode};
@@ -47,23 +48,23 @@ fn vacant(place: usize) -> KeptInstr
     }
 }
 
-impl Code {
+impl InstrTable {
     /// Nothing is kept yet. It takes all its memory here.
-    pub fn new(alloc: Global) -> Result<Code, AllocError>
-        ensures { IfOk result (λ code. (pc : ℕ) → kept_instruction code pc ≡ None) }
+    pub fn new(alloc: Global) -> Result<InstrTable, AllocError>
+        ensures { IfOk result (λ table. (pc : ℕ) → kept_instruction table pc ≡ None) }
     {
         // It leaves each place vacant but that of its own address.
         let found = vacant(0);
         let mut filled = Vec::with_capacity(alloc, PLACES)?;
         filled.push(found.pc).unwrap();
-        let mut code = Code {
+        let mut table = InstrTable {
             places: vec![in alloc; found; PLACES]?,
             filled,
             first: found.pc,
             last: found.pc,
         };
-        code.empty();
-        Ok(code)
+        table.empty();
+        Ok(table)
     }
 
     /// The instruction that is kept for an address, if one is.

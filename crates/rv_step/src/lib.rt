@@ -5,6 +5,7 @@ mod arithmetic;
 mod atomics;
 mod code;
 mod execution;
+mod instr_table;
 mod jumps;
 mod keeping;
 mod kept_instr;

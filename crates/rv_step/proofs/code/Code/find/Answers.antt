@@ -1,33 +1,16 @@
-use Rattle.std.proofs.Common.{ap, sym, ◌∙◌, inr}
-use Rattle.std.specs.Option.{option_and_then}
-use Rattle.std.specs.Result.{result_ok}
-use Rattle.rv_decode.specs.Decoded.{decode}
-use Rattle.rv_step.specs.Code.{instruction_at, kept_instruction}
+use Rattle.std.proofs.Common.{refl, sym, ◌∙◌, inl, inr}
+use Rattle.rv_step.proofs.CodeLemmas.{get-code}
 use Rattle.rv_step.proofs.code.Code.find.Goals as goal
 
-pub returns-in_default-clause-found : goal.returns-in_default-clause-found
-unfolding instruction_at
-returns-in_default-clause-found c =
-    c.requires ∙ sym (ap (option_and_then decode) (sym c.fetch.ensures ∙ ap result_ok c.in_default.is))
+pub find-requires : goal.find-requires
+find-requires c = sym (get-code c.self.inside.table c.args.self.now c.self.view_is c.args.pc) ∙ c.requires
 
-pub returns-in-Some-clause-found : goal.returns-in-Some-clause-found
-unfolding instruction_at
-returns-in-Some-clause-found c =
-    c.keep.ensures.kept
-    ∙ sym (ap (option_and_then decode) (sym c.fetch.ensures ∙ ap result_ok c.in-Ok.is)
-    ∙ sym c.decode.ensures.row ∙ c.in-Some.is)
+pub returns-clause-found : goal.returns-clause-found
+returns-clause-found c = get-code c.find.new.self _ refl c.args.pc ∙ c.find.ensures.found
 
-pub returns-in-Some-clause-others : goal.returns-in-Some-clause-others
-unfolding kept_instruction
-returns-in-Some-clause-others c = c.keep.ensures.others
-
-pub returns-in_default-decode-clause-found : goal.returns-in_default-decode-clause-found
-unfolding instruction_at kept_instruction
-returns-in_default-decode-clause-found c =
-    c.requires
-    ∙ sym (ap (option_and_then decode) (sym c.fetch.ensures ∙ ap result_ok c.in-Ok.is)
-    ∙ sym c.decode.ensures.row ∙ c.in_default-decode.is)
-
-pub returns-in_default-decode-clause-others : goal.returns-in_default-decode-clause-others
-unfolding kept_instruction
-returns-in_default-decode-clause-others c = λ q i given. inr given
+pub returns-clause-others : goal.returns-clause-others
+returns-clause-others c = λ q i given.
+    elim (c.find.ensures.others q i (sym (get-code c.find.new.self _ refl q) ∙ given)) [
+      | inl same ↦ inl same
+      | inr before ↦ inr (get-code c.self.inside.table c.args.self.now c.self.view_is q ∙ before)
+    ]

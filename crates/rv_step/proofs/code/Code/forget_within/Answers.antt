@@ -1,19 +1,11 @@
-use Rattle.std.proofs.Common.{arith}
-use Rattle.rv_step.proofs.CodeLemmas.{apart-above, apart-below, none-kept}
+use Rattle.std.proofs.Common.{refl, sym, ◌∙◌}
+use Rattle.rv_step.proofs.CodeLemmas.{code-fewer, get-code}
 use Rattle.rv_step.proofs.code.Code.forget_within.Goals as goal
 
-pub returns-then-end-from-clause-apart : goal.returns-then-end-from-clause-apart
-returns-then-end-from-clause-apart c =
-    apart-below c.args.self.now c.args.address c.args.bytes
-    (omega (arith, c.from.ensures, c.from-2.ensures, c.from-3.ensures, c.if-end-from.true))
-
-pub returns-then-from-clause-apart : goal.returns-then-from-clause-apart
-returns-then-from-clause-apart c =
-    apart-above c.args.self.now c.args.address c.args.bytes
-    (omega (arith, c.from-4.ensures, c.from-5.ensures, c.if-from.true))
-
 pub returns-clause-fewer : goal.returns-clause-fewer
-returns-clause-fewer c = λ q i given. let none = none-kept c.empty.new.self q c.empty.ensures in cc
+returns-clause-fewer c =
+    code-fewer c.self.inside.table c.forget_within.new.self c.args.self.now _ c.self.view_is refl c.forget_within.ensures.fewer
 
 pub returns-clause-apart : goal.returns-clause-apart
-returns-clause-apart c = λ q i given. let none = none-kept c.empty.new.self q c.empty.ensures in cc
+returns-clause-apart c = λ q i given.
+    c.forget_within.ensures.apart q i (sym (get-code c.forget_within.new.self _ refl q) ∙ given)

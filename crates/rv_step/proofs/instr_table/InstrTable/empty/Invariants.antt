@@ -1,7 +1,7 @@
 use Rattle.std.proofs.Common.{◌≡◌, drop}
 use Rattle.std.specs.Vec.{vec_len}
 use Rattle.rv_step.specs.inner.Places.{AreNoted}
-use Rattle.rv_step.proofs.code.Code.empty.Given as goal
+use Rattle.rv_step.proofs.instr_table.InstrTable.empty.Given as goal
 
 -- what is kept stands in the places of the addresses that are left
 abbrev pub invariant-filled : goal.invariant-filled

@@ -1,16 +1,16 @@
 use Rattle.std.proofs.Common.{arith, inl, inr, refl}
-use Rattle.rv_step.proofs.CodeLemmas.{kept-found, kept-others, noted-filled, noted-wider, place-below}
-use Rattle.rv_step.proofs.code.Code.keep.Goals as goal
+use Rattle.rv_step.proofs.TableLemmas.{kept-found, kept-others, noted-filled, noted-wider, place-below}
+use Rattle.rv_step.proofs.instr_table.InstrTable.keep.Goals as goal
 
 pub invariant_of-self-clause-noted : goal.invariant_of-self-clause-noted
 invariant_of-self-clause-noted c =
-    let code = c.note.new.self in
+    let table = c.note.new.self in
     let pc = c.args.found.pc in
-    noted-filled code.filled.items c.min-self.result c.max-self.result c.place_of.result code.places.items c.args.found
-    (omega (arith, code.whole, place-below pc c.place_of.result c.place_of.ensures)) c.place_of.ensures
+    noted-filled table.filled.items c.min-self.result c.max-self.result c.place_of.result table.places.items c.args.found
+    (omega (arith, table.whole, place-below pc c.place_of.result c.place_of.ensures)) c.place_of.ensures
     c.note.ensures.noted (omega (arith, c.min-self.ensures)) (omega (arith, c.max-self.ensures))
-    (noted-wider code.filled.items code.first code.last c.min-self.result c.max-self.result code.places.items
-    (omega (arith, c.min-self.ensures)) (omega (arith, c.max-self.ensures)) code.noted)
+    (noted-wider table.filled.items table.first table.last c.min-self.result c.max-self.result table.places.items
+    (omega (arith, c.min-self.ensures)) (omega (arith, c.max-self.ensures)) table.noted)
 
 pub returns-clause-kept : goal.returns-clause-kept
 returns-clause-kept c =

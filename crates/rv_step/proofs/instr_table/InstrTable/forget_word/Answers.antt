@@ -1,6 +1,6 @@
 use Rattle.std.proofs.Common.{arith, refl}
-use Rattle.rv_step.proofs.CodeLemmas.{kept-fewer, kept-gone, noted-without, place-below, read-elsewhere}
-use Rattle.rv_step.proofs.code.Code.forget_word.Goals as goal
+use Rattle.rv_step.proofs.TableLemmas.{kept-fewer, kept-gone, noted-without, place-below, read-elsewhere}
+use Rattle.rv_step.proofs.instr_table.InstrTable.forget_word.Goals as goal
 
 pub returns-then-index-pc-clause-fewer : goal.returns-then-index-pc-clause-fewer
 returns-then-index-pc-clause-fewer c =
@@ -19,7 +19,7 @@ returns-else-index-pc-clause-gone c =
 
 pub invariant_of-self-clause-noted : goal.invariant_of-self-clause-noted
 invariant_of-self-clause-noted c =
-    let code = c.args.self.now in
-    noted-without code.filled.items code.first code.last c.place_of-place.result code.places.items c.vacant.result
-    (omega (arith, code.whole, place-below c.args.pc c.place_of-place.result c.place_of-place.ensures))
-    c.vacant.ensures code.noted
+    let table = c.args.self.now in
+    noted-without table.filled.items table.first table.last c.place_of-place.result table.places.items c.vacant.result
+    (omega (arith, table.whole, place-below c.args.pc c.place_of-place.result c.place_of-place.ensures))
+    c.vacant.ensures table.noted
