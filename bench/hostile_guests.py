@@ -32,7 +32,7 @@ LONG_ENOUGH, FEWEST, MOST = 0.2, 4000, 1 << 22
 SCRATCH = tempfile.TemporaryDirectory(dir="/dev/shm" if os.path.isdir("/dev/shm") else None)
 KINDS = {}
 # What grows by more than it may today.
-KNOWN_SLOW = set("maps".split())
+KNOWN_SLOW = set()
 
 
 class Run:

@@ -10,6 +10,7 @@ ghost use Rattle.guest_mem.specs.inner.Directory.{page_at, page_total, has_place
 ghost use Rattle.guest_mem.specs.inner.Table.{at_place, Alters, AltersRange, AreFree, AreGaps, IsFirst};
 
 use crate::page::Page;
+use crate::spare::SparePages;
 use crate::table::{Gaps, PLACES, Table, add_places};
 use std::alloc::{AllocError, Global};
 
@@ -302,21 +303,24 @@ impl Directory {
         self.settle(first, count);
     }
 
-    /// Takes the page of a number away, and tells how many went.
-    fn remove(&mut self, number: usize) -> usize
+    /// Takes the page of a number away, which is spare then, and tells how many went.
+    fn remove(&mut self, number: usize, spare: &mut SparePages) -> usize
         requires { number < 2 ^ 20 }
         ensures after { Alters (page_at self.old) (page_at self.new) number None }
         ensures taken { result + page_total self.new ≡ page_total self.old }
         ensures one { result ≤ 1 }
     {
-        if self.take(number).is_some() {
-            return 1;
+        match self.take(number) {
+            Some(page) => {
+                spare.put(page);
+                1
+            }
+            None => 0,
         }
-        0
     }
 
-    /// Takes `count` pages from the first on away, and tells how many were there.
-    pub fn clear(&mut self, first: usize, count: usize) -> usize
+    /// Takes `count` pages from the first on away, which are spare then, and tells how many were there.
+    pub fn clear(&mut self, first: usize, count: usize, spare: &mut SparePages) -> usize
         requires { first + count ≤ 2 ^ 20 }
         ensures after { AltersRange (page_at self.old) (page_at self.new) first count (λ _. None) }
         ensures taken { result + page_total self.new ≡ page_total self.old }
@@ -325,7 +329,7 @@ impl Directory {
         let mut taken = 0;
         let mut at = self.first(first, end, true);
         'there: while at < end {
-            taken += self.remove(at);
+            taken += self.remove(at, spare);
             at = self.first(at + 1, end, true);
         }
         self.settle(first, count);
@@ -345,16 +349,22 @@ impl Directory {
     }
 }
 
-/// So many pages of zeros.
-pub fn fresh_pages(alloc: Global, count: usize, permission: u8) -> Result<Vec<Page>, AllocError>
+/// So many pages of zeros, the spare ones among them.
+pub fn fresh_pages(
+    alloc: Global,
+    spare: &mut SparePages,
+    count: usize,
+    permission: u8,
+) -> Result<Vec<Page>, AllocError>
     requires range { count ≤ 2 ^ 20 }
     requires permission { permission < 8 }
     ensures len { IfOk result (λ pages. vec_len pages ≡ count) }
     ensures zeros { IfOk result (λ pages. All (λ page. page ≡ zero_page permission) pages.items) }
 {
+    spare.reserve()?;
     let mut pages = Vec::with_capacity(alloc, count)?;
     while pages.len() < count {
-        pages.push(Page::zeroed(alloc, permission)?)?;
+        pages.push(spare.zeroed(alloc, permission)?)?;
     }
     Ok(pages)
 }

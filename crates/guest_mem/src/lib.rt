@@ -7,6 +7,7 @@ mod directory;
 mod error;
 mod memory;
 mod page;
+mod spare;
 mod table;
 
 pub use error::{Access, CopyError, MapError};

@@ -11,6 +11,7 @@ ghost use Rattle.guest_mem.specs.Memory.{page_count, page_mapped, pages_mapped, 
 use crate::directory::{Directory, fresh_pages};
 use crate::error::{Access, CopyError, MapError};
 use crate::page::{EXECUTE, PAGE_BYTES, READ, WRITE};
+use crate::spare::SparePages;
 use byte_text::Text;
 use std::alloc::Global;
 use std::marker::Model;
@@ -29,6 +30,7 @@ pub const MAX_PAGES: u32 = 65_536;
 pub struct GuestMem {
     directory: Directory,
     mapped: u32,
+    spare: SparePages,
     alloc: Global,
 }
 
@@ -58,6 +60,7 @@ impl GuestMem {
         GuestMem {
             directory: Directory::new(alloc),
             mapped: 0,
+            spare: SparePages::new(alloc),
             alloc,
         }
     }
@@ -166,7 +169,7 @@ impl GuestMem {
             return Err(MapError::Full);
         }
         self.directory.reserve_range(self.alloc, page, count)?;
-        let fresh = fresh_pages(self.alloc, count, perm)?;
+        let fresh = fresh_pages(self.alloc, &mut self.spare, count, perm)?;
         self.directory.fill(page, fresh, perm);
         self.mapped += missing as u32;
         Ok(())
@@ -181,7 +184,7 @@ impl GuestMem {
         ensures none { pages ≡ 0 → self.new ≡ self.old }
     {
         let page = first as usize / PAGE_BYTES;
-        let taken = self.directory.clear(page, pages as usize);
+        let taken = self.directory.clear(page, pages as usize, &mut self.spare);
         self.mapped -= taken as u32;
     }
 

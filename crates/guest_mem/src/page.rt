@@ -60,6 +60,17 @@ impl Page {
         Ok(Page { permission, bytes })
     }
 
+    /// Makes it a page of zeros.
+    #[tactic(auto, unfolding(crate::specs::inner::Page::zeros))]
+    pub fn clear(&mut self, permission: u8)
+        requires { permission < 8 }
+        ensures after { self.new ≡ zero_page permission }
+        ensures whole { IsWhole self.new }
+    {
+        self.bytes.fill(0);
+        self.protect(permission);
+    }
+
     /// Whether the page's permission has all bits of `want`.
     #[inline(always)]
     pub fn allows(&self, want: u8) -> bool
