@@ -87,6 +87,22 @@ impl Caches {
         is_data_first(&mut self.d1, event.done.touch)
     }
 
+    /// What `refer` does, quicker where nothing misses and nothing changes.
+    #[inline(always)]
+    pub(crate) fn missed(&mut self, event: &Event) -> Missed
+        requires fetch { event.now.done.pc + 4 ≤ 2 ^ 32 }
+        requires data { CanRefer event.now.done.touch }
+        ensures misses { (shapes : Shapes) (events : List Event) → StandForEvents shapes self.old events
+            → misses_of result ≡ misses_after shapes events event.now }
+        ensures stands { (shapes : Shapes) (events : List Event) → StandForEvents shapes self.old events
+            → StandForEvents shapes self.new (events ++ event.now ∷ []) }
+    {
+        if self.are_first(event) {
+            return NO_MISS;
+        }
+        self.refer(event)
+    }
+
     /// Refers to the event's fetch and then to its data reference. The answer says which of them miss.
     #[inline(always)]
     pub(crate) fn refer(&mut self, event: &Event) -> Missed

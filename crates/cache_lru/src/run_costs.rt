@@ -128,7 +128,7 @@ impl RunCosts {
             → StandForRun branches shapes self.old events
             → All (λ n. n ≤ 1) result }
     {
-        let missed = self.caches.refer(event);
+        let missed = self.caches.missed(event);
         let ones = ones_of(event.done.touch, missed);
         let Some(predictors) = &mut self.predictors else {
             return ones;

@@ -131,7 +131,7 @@ module _ {W : Type 0} (m : Meaning W) {fresh : W → SymbolMap → Type 0} {job 
     past = s.past;
     stop = record { end = end; tried = None };
     end = refl;
-    over =
+    is_over =
         over_before m guest job.first s.past old.machine old.costs old.recorder parts.head w s.after end found;
     put = s.put;
     sent = s.sent;
@@ -244,7 +244,7 @@ module _ {W : Type 0} (m : Meaning W) {fresh : W → SymbolMap → Type 0} {job 
           past = s.past;
           stop = stop;
           end = refl;
-          over =
+          is_over =
               subst (λ mc. IsOver m job.guest job.first s.past stop mc c.recorder parts.head w) (sym given)
               (subst (λ r. IsOver m job.guest job.first s.past stop (with_given end old.machine) r parts.head w)
               (sym same) known_end);
@@ -260,7 +260,7 @@ module _ {W : Type 0} (m : Meaning W) {fresh : W → SymbolMap → Type 0} {job 
       is_made = record {
         before = old.machine;
         begun = s.begun;
-        told = machine_step event output after;
+        outcome = machine_step event output after;
         makes = makes;
         wait = refl;
         woken = refl;

@@ -145,7 +145,7 @@ module _ {W : Type 0} (m : Meaning W) (guest : Program) (first : W) (past : List
   first_guest = guest_at_start guest.image guest.args guest.input
 
   abbrev x : RunStep
-  x = run_step guest past made.told
+  x = run_step guest past made.outcome
 
   abbrev last : Step
   last = x.step
@@ -155,19 +155,19 @@ module _ {W : Type 0} (m : Meaning W) (guest : Program) (first : W) (past : List
       holds_reached first_guest guest.options.quantum guest.options.seed (map machine_step_of past) made.before
       begun.after.reached
 
-  goes : Holds first_guest (map machine_step_of past ++ made.told ∷ []) machine
-      × InOrder first_guest (map machine_step_of past) made.told
-  goes = holds_next first_guest (map machine_step_of past) made.before made.told machine held made.makes
+  goes : Holds first_guest (map machine_step_of past ++ made.outcome ∷ []) machine
+      × InOrder first_guest (map machine_step_of past) made.outcome
+  goes = holds_next first_guest (map machine_step_of past) made.before made.outcome machine held made.makes
 
-  pub in_order : InOrder first_guest (map machine_step_of past) made.told
+  pub in_order : InOrder first_guest (map machine_step_of past) made.outcome
   in_order = goes.1
 
-  pub runs : (made.told.event.thread ≡ begun.thread) × (made.told.event.done.pc ≡ begun.pc)
+  pub runs : (made.outcome.event.thread ≡ begun.thread) × (made.outcome.event.done.pc ≡ begun.pc)
   runs =
-      goes_where first_guest (map machine_step_of past) made.before begun.thread begun.pc made.told machine held begun.runs
+      goes_where first_guest (map machine_step_of past) made.before begun.thread begun.pc made.outcome machine held begun.runs
       made.makes
 
-  tolds : map machine_step_of (past ++ x ∷ []) ≡ map machine_step_of past ++ made.told ∷ []
+  tolds : map machine_step_of (past ++ x ∷ []) ≡ map machine_step_of past ++ made.outcome ∷ []
   tolds = map-append machine_step_of past (x ∷ [])
 
   steps : steps_of (past ++ x ∷ []) ≡ steps_of past ++ last ∷ []
@@ -183,7 +183,7 @@ module _ {W : Type 0} (m : Meaning W) (guest : Program) (first : W) (past : List
             λ ts. Run next (new_machine first_guest guest.options.quantum guest.options.seed) ts machine in
             subst P (sym tolds)
             (Run-push next (new_machine first_guest guest.options.quantum guest.options.seed) (map machine_step_of past)
-            made.before made.told machine before.run made.makes));
+            made.before made.outcome machine before.run made.makes));
       }
 
   -- the step is in order
@@ -231,18 +231,18 @@ module _ {W : Type 0} (m : Meaning W) (guest : Program) (first : W) (past : List
   pub referred : CanRefer event.done.touch
   referred =
       let P : Event → Type 0 = λ e. CanRefer e.done.touch in
-      subst P made.event (can_refer made.told.event.done.touch in_order.within.1)
+      subst P made.event (can_refer made.outcome.event.done.touch in_order.within.1)
 
   pub top : top_of (stack own_account.frames) ≡ Some (place_of guest.syms event.done.pc).func
   top =
-      let goes_on : Follows (last_of (steps_of_thread made.told.event.thread.0 (steps_of past))) made.told.event
-      = follows first_guest past made.told.event in_order.goes_on in
+      let goes_on : Follows (last_of (steps_of_thread made.outcome.event.thread.0 (steps_of past))) made.outcome.event
+      = follows first_guest past made.outcome.event in_order.goes_on in
       let P : Event → Type 0 =
       λ e. top_of (stack_at guest.syms (steps_of past) e.thread.0 e.done.pc)
       ≡ Some (place_of guest.syms e.done.pc).func in
       ap (λ t. top_of (stack (account r t).frames)) (sym is_thread) ∙ ap top_of begun.stack
       ∙ (λ i. top_of (stack_at guest.syms (steps_of past) (is_thread i).0 (is_pc i)))
-      ∙ subst P made.event (top_at guest.syms (steps_of past) made.told.event goes_on)
+      ∙ subst P made.event (top_at guest.syms (steps_of past) made.outcome.event goes_on)
 
   pub can_note : (cost : List ℕ) → All (λ k. k ≤ 1) cost → guest.options.budget ≤ 10 ^ 12
       → CanNote guest.syms event cost own_account
@@ -269,7 +269,7 @@ module _ {W : Type 0} (m : Meaning W) (guest : Program) (first : W) (past : List
   watched_last : guest.options.budget ≤ 10 ^ 12 → All (λ k. k ≤ 1) last.on_stack.cost
       → AreWatched guest.syms ((cs_before ++ ready_call ∷ []) ++ Sees last ∷ [])
   watched_last long ones =
-      let whole = cost_whole guest.options.branch guest.options.shapes (events_of past) made.told.event in
+      let whole = cost_whole guest.options.branch guest.options.shapes (events_of past) made.outcome.event in
       let fits : Fits guest.syms (cs_before ++ ready_call ∷ []) (Sees last) = (
         last-push cs_before ready_call,
         (let Q : List Step → Type 0 = λ ps. IsOrderly guest.syms ps last in
@@ -345,7 +345,7 @@ module _ {W : Type 0} (m : Meaning W) (guest : Program) (first : W) (past : List
         let more = in_order.makes.0 in
         let before = held.made in
         let now = goes.0.made in
-        let push = made_push first_guest.made (map machine_step_of past) made.told in
+        let push = made_push first_guest.made (map machine_step_of past) made.outcome in
         omega (arith, more, before, now, push)
 
     numbered : thread_of last ≤ made.before.engine.kernel.guest.made
@@ -379,7 +379,7 @@ module _ {W : Type 0} (m : Meaning W) (guest : Program) (first : W) (past : List
     after_step = record {
       run =
           Run-push (next_step guest) (start guest) past (made.before, past) x (machine, past ++ x ∷ []) begun.after.run
-          (going-step guest (made.before, past) made.told machine begun.goes made.makes);
+          (going-step guest (made.before, past) made.outcome machine begun.goes made.makes);
       reached = reached;
       given = goes.0.given;
       few = (let more = length-push past x in let spare = begun.spare in omega (arith, more, spare));
@@ -482,12 +482,12 @@ pub by_other_costs : {W : Type 0} (m : Meaning W) (event : Event) (machine : Mac
     (r : Recording) (watch : W) (syms : SymbolMap) (Q : Program → W → List RunStep → RunStep → Type 0) → other ≡ costs
     → ((guest : Program) (first : W) (past : List RunStep)
     → (made : IsMade m guest first past event machine other r watch)
-    → guest.syms ≡ syms → guest.options.budget ≤ 10 ^ 12 → Q guest first past (run_step guest past made.told))
+    → guest.syms ≡ syms → guest.options.budget ≤ 10 ^ 12 → Q guest first past (run_step guest past made.outcome))
     → (guest : Program) (first : W) (past : List RunStep)
     → (made : IsMade m guest first past event machine costs r watch)
-    → guest.syms ≡ syms → guest.options.budget ≤ 10 ^ 12 → Q guest first past (run_step guest past made.told)
+    → guest.syms ≡ syms → guest.options.budget ≤ 10 ^ 12 → Q guest first past (run_step guest past made.outcome)
 by_other_costs {W} m event machine costs other r watch syms Q same promised =
     subst (λ (k : RunCosts). (guest : Program) (first : W) (past : List RunStep)
     → (made : IsMade m guest first past event machine k r watch)
-    → guest.syms ≡ syms → guest.options.budget ≤ 10 ^ 12 → Q guest first past (run_step guest past made.told))
+    → guest.syms ≡ syms → guest.options.budget ≤ 10 ^ 12 → Q guest first past (run_step guest past made.outcome))
     same promised

@@ -148,7 +148,7 @@ module _ {W : Type 0} (m : Meaning W) {guest : Program} {first : W} {past : List
                 whole = sym all_files;
                 follows = tt;
               };
-              left = put.files;
+              holds = put.files;
             })
             put.calls,
       )

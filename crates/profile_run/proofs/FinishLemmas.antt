@@ -75,14 +75,14 @@ module _ {W : Type 0} (m : Meaning W) {fresh : W → SymbolMap → Type 0} {job 
   head = record parts.head { trigger = Termination }
 
   abbrev pub plan : Plan W
-  plan = last_plan m guest job.first e.past e.stop old.machine old.recorder parts.head w e.over (shelf job.old)
+  plan = last_plan m guest job.first e.past e.stop old.machine old.recorder parts.head w e.is_over (shelf job.old)
 
   is_head : IsHead guest head
-  is_head = record { same = λ part trigger thread. e.over.head.same part trigger thread }
+  is_head = record { same = λ part trigger thread. e.is_over.head.same part trigger thread }
 
   pub begins : IsPutting m plan 1 head old.recorder w
   begins =
-      last_begins m guest job.first e.past e.stop old.machine old.recorder parts.head w e.over (shelf job.old) head
+      last_begins m guest job.first e.past e.stop old.machine old.recorder parts.head w e.is_over (shelf job.old) head
       is_head
 
   pub can_put : CanPut m fresh order.syms.now order.options.now 1 head old.recorder w
@@ -99,15 +99,15 @@ module _ {W : Type 0} (m : Meaning W) {fresh : W → SymbolMap → Type 0} {job 
       (shelf now) parts.put.items
   has_put =
       subst (λ fs. HasPut order.options.now.base fs (shelf job.old) (shelf now) parts.put.items)
-      (nothing_put m guest job.first e.past e.stop old.machine old.recorder parts.head w e.over (shelf job.old) head.part
+      (nothing_put m guest job.first e.past e.stop old.machine old.recorder parts.head w e.is_over (shelf job.old) head.part
       head.trigger)
       (subst (λ (o : Options). HasPut o.base (plan.put) (shelf job.old) (shelf now) parts.put.items) is.options e.put)
 
   all_files : files_after m plan (calls_below plan head.part head.trigger (old.machine.engine.kernel.guest.made + 1))
       ≡ (watched_parts m job.first guest).whole (steps_of e.past) e.stop.tried
   all_files =
-      files_are m guest job.first e.past e.stop old.machine old.recorder parts.head w e.over (shelf job.old) head.part
-      e.over.number
+      files_are m guest job.first e.past e.stop old.machine old.recorder parts.head w e.is_over (shelf job.old) head.part
+      e.is_over.number
 
   abbrev all_put : Output
   all_put = whole_output (watched_parts m job.first guest) e.past e.stop
@@ -136,15 +136,15 @@ module _ {W : Type 0} (m : Meaning W) {fresh : W → SymbolMap → Type 0} {job 
                 record {
                   trace = e.past;
                   stop = e.stop;
-                  is = e.over.is;
+                  is = e.is_over.is;
                   end = sym e.end;
-                  steps = steps ∙ e.over.steps;
-                  threads = made ∙ e.over.threads;
+                  steps = steps ∙ e.is_over.steps;
+                  threads = made ∙ e.is_over.threads;
                   parts = files.listed;
                   output = refl;
                 },
               );
-              left = record { files = files.files; out = now_sent.out; err = now_sent.err };
+              leaves = record { files = files.files; out = now_sent.out; err = now_sent.err };
               log = record {
                 calls = puts_of all_put.files;
                 out = now_sent.out_told.0;
@@ -153,7 +153,7 @@ module _ {W : Type 0} (m : Meaning W) {fresh : W → SymbolMap → Type 0} {job 
               does = record {
                 trace = e.past;
                 stop = e.stop;
-                is = e.over.is;
+                is = e.is_over.is;
                 calls = refl;
                 out = now_sent.out_told.1;
                 err = now_sent.err_told.1;
@@ -161,8 +161,8 @@ module _ {W : Type 0} (m : Meaning W) {fresh : W → SymbolMap → Type 0} {job 
               tells = record { calls = files.calls; out = now_sent.out_told.2; err = now_sent.err_told.2 };
             };
             watched =
-                watched_all m guest job.first e.past e.stop old.machine old.recorder parts.head w e.over (shelf job.old)
-                p.head c.recorder v put.putting (put.part ∙ e.over.number) put.trigger;
+                watched_all m guest job.first e.past e.stop old.machine old.recorder parts.head w e.is_over (shelf job.old)
+                p.head c.recorder v put.putting (put.part ∙ e.is_over.number) put.trigger;
           },
           now_grows,
         )
@@ -171,7 +171,7 @@ module _ {W : Type 0} (m : Meaning W) {fresh : W → SymbolMap → Type 0} {job 
     leads = record {
       trace = e.past;
       stop = e.stop;
-      is = e.over.is;
+      is = e.is_over.is;
       later = [];
       steps = sym (append-nil e.past);
       more = [];
@@ -184,8 +184,8 @@ module _ {W : Type 0} (m : Meaning W) {fresh : W → SymbolMap → Type 0} {job 
         (shelf job.old) now.put_faults fault (shelf new) new.put_faults
         → Fails m job fault new × Grows job.old new
     unfinished fault refused = (
-      put_failed m job is.fits e.past (record { last = e.over.is.last; run = e.over.is.run }) head.part all_put.files
-          (inr (sym e.over.number, (e.stop, e.over.is))) leads fault now.put_faults new now_sent e.grows.puts
+      put_failed m job is.fits e.past (record { last = e.is_over.is.last; run = e.is_over.is.run }) head.part all_put.files
+          (inr (sym e.is_over.number, (e.stop, e.is_over.is))) leads fault now.put_faults new now_sent e.grows.puts
           (subst (λ fs. RefusedBy guest.options.base head.part fs (shelf job.old) now.put_faults fault (shelf new)
           new.put_faults) all_files refused),
       now_grows,

@@ -48,7 +48,7 @@ module _ {W : Type 0} (m : Meaning W) (job : Job W) (image : Image) (syms : Symb
       answers = record {
         output = nothing;
         runs = runs;
-        left = subst (λ new. Leaves job.old nothing new) same (left_alone job.old);
+        leaves = subst (λ new. Leaves job.old nothing new) same (left_alone job.old);
         log = nothing_done;
         does = does;
         tells = subst (λ new. Tells job.old nothing_done new) same (tells_nothing job.old);

@@ -62,7 +62,7 @@ taken_front error bytes old new t told = record {
       let many = length-take-le t.0 bytes (omega (arith, fewer)) in
       omega (arith, fewer, many));
   taken = t.2;
-  told = told;
+  writes = told;
 }
 
 -- sinks to which nothing was written since

@@ -99,7 +99,7 @@ refused_more files more name old new r = record {
     whole = ap (λ fs. fs ++ more) r.front.whole ∙ append_assoc r.done r.front.rest more;
     follows = next_more name r.front.rest more r.front.follows;
   };
-  left = r.left;
+  holds = r.holds;
 }
 
 pub refused_by_more : (base : List ℕ) (part : ℕ) (files more : List Named) (old : Shelf) (before : ℕ)

@@ -105,7 +105,7 @@ module _ {W : Type 0} (m : Meaning W) (plan : Plan W) (h : PartHead) (r : Record
           whole = files_next;
           follows = tt;
         };
-        left = put.files;
+        holds = put.files;
       })
       put.calls
 
@@ -162,7 +162,7 @@ module _ {W : Type 0} (m : Meaning W) (plan : Plan W) (h : PartHead) (r : Record
         whole = files_more;
         follows = refl;
       };
-      left = subst (λ mid. SameBut (part_name plan.guest.options.base h.part t.0) mid new.files) put.files same;
+      holds = subst (λ mid. SameBut (part_name plan.guest.options.base h.part t.0) mid new.files) put.files same;
     }
 
     module _ (places : KnowsPlaces plan.guest.syms) where
@@ -334,7 +334,7 @@ module _ {W : Type 0} (m : Meaning W) (plan : Plan W) (h : PartHead) (r : Record
                 (record {
                   done = files_after m plan after;
                   front = record { rest = []; whole = sym (append-nil (files_after m plan after)); follows = tt };
-                  left = put_files;
+                  holds = put_files;
                 })
                 put_calls)
 

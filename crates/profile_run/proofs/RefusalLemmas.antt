@@ -248,7 +248,7 @@ module _ {W : Type 0} (m : Meaning W) (job : Job W) (fits : Fits job.guest) (pas
               short m job.guest job.first past files output leads (front_all files) (bytes_all (sent_bytes 1 past))
                   (bytes_all (sent_bytes 2 past)),
             );
-        left = record { files = put.files; out = sent_.out; err = sent_.err };
+        leaves = record { files = put.files; out = sent_.out; err = sent_.err };
         log = record { calls = puts_of files ++ []; out = sent_.out_told.0; err = sent_.err_told.0 };
         does = inl (some_done files files [] [] job.old now leads (sym (append-nil files)) refl sent_);
         tells = record {
@@ -286,7 +286,7 @@ module _ {W : Type 0} (m : Meaning W) (job : Job W) (fits : Fits job.guest) (pas
             err = refl;
           },
         );
-        left = record { files = r.2.refused.left; out = sent_.out; err = sent_.err };
+        leaves = record { files = r.2.refused.holds; out = sent_.out; err = sent_.err };
         log = record {
           calls = puts_of done ++ Put name r.2.text (Err put.Failed) ∷ [];
           out = sent_.out_told.0;
@@ -325,7 +325,7 @@ module _ {W : Type 0} (m : Meaning W) (job : Job W) (fits : Fits job.guest) (pas
               short m job.guest job.first past files output leads r.refused.front (bytes_all (sent_bytes 1 past))
                   (bytes_all (sent_bytes 2 past)),
             );
-        left = record { files = r.refused.left; out = sent_.out; err = sent_.err };
+        leaves = record { files = r.refused.holds; out = sent_.out; err = sent_.err };
         log = record { calls = puts_of done ++ r.last; out = sent_.out_told.0; err = sent_.err_told.0 };
         does =
             inl (some_done files done r.refused.front.rest r.last job.old now leads r.refused.front.whole r.unput sent_);
@@ -373,8 +373,8 @@ module _ {W : Type 0} (m : Meaning W) (job : Job W) (fits : Fits job.guest) (pas
       (last_front 1 to count bytes past last is f) (last_front 2 to count bytes past last is f)
 
   module _ (error : WriteError) (f : SendsFront error to bytes before.out before.err now.out now.err) where
-    pub left_partly : Leaves job.old (partly f.count) now
-    left_partly = record {
+    pub leaves_partly : Leaves job.old (partly f.count) now
+    leaves_partly = record {
       files = ap (λ (s : Shelf). s.files) same ∙ put_.files;
       out =
           f.out ∙ ap (λ t. taken_more t (bytes_to 1 (Some (to, f.count)))) sent_.out
@@ -450,7 +450,7 @@ module _ {W : Type 0} (m : Meaning W) (job : Job W) (fits : Fits job.guest) (pas
             err = refl;
           },
         );
-        left = left_partly write.Failed f;
+        leaves = leaves_partly write.Failed f;
         log = done_partly write.Failed f;
         does = record {
           trace = leads.trace;
@@ -481,7 +481,7 @@ module _ {W : Type 0} (m : Meaning W) (job : Job W) (fits : Fits job.guest) (pas
       record {
         output = partly f.count;
         runs = inl (fits, partly_short f.count f.front);
-        left = left_partly (write.OutOfMemory refused) f;
+        leaves = leaves_partly (write.OutOfMemory refused) f;
         log = done_partly (write.OutOfMemory refused) f;
         does =
             inl (record {

@@ -204,7 +204,7 @@ pub record Answers (writing : Writing) (guest : Program) (old : Outside) (answer
     (new : Outside) : Type 0 where
   pub output : Output
   pub runs : Runs writing guest old answer output new
-  pub left : Leaves old output new
+  pub leaves : Leaves old output new
   pub log : Log
   pub does : Does writing guest answer log
   pub tells : Tells old log new

@@ -10,8 +10,8 @@ use Rattle.profile_run.specs.Trace.{RunStep, steps_of, run_step}
 
 -- A step is what the machine told, after these steps, and there was room for it: the budget wasn't spent, and a frame
 -- more could be live.
-pub record IsTold (guest : Program) (before : List RunStep) (told : MachineStep) (x : RunStep) : Type 0 where
-  pub is : x ≡ run_step guest before told
+pub record IsTold (guest : Program) (before : List RunStep) (outcome : MachineStep) (x : RunStep) : Type 0 where
+  pub is : x ≡ run_step guest before outcome
   pub spare : length before < guest.options.budget
   pub room : live guest.syms (steps_of before) < most_frames
 
@@ -19,8 +19,8 @@ pub record IsTold (guest : Program) (before : List RunStep) (told : MachineStep)
 abbrev pub AreTold : Program → List RunStep → List MachineStep → List RunStep → Type 0
 AreTold guest before [] [] = Unit {0}
 AreTold guest before [] (x ∷ xs) = ⊥
-AreTold guest before (told ∷ more) [] = ⊥
-AreTold guest before (told ∷ more) (x ∷ xs) = IsTold guest before told x × AreTold guest (before ++ x ∷ []) more xs
+AreTold guest before (outcome ∷ more) [] = ⊥
+AreTold guest before (outcome ∷ more) (x ∷ xs) = IsTold guest before outcome x × AreTold guest (before ++ x ∷ []) more xs
 
 -- The steps are those that the machine tells of, from its first state on.
 pub record AreOfMachine (guest : Program) (past : List RunStep) : Type 0 where

@@ -37,21 +37,21 @@ events_of xs = map (λ x. step.event_of x.step) xs
 
 -- what the machine tells of a step, with its cost after all events before it and the stack of its thread
 abbrev pub step_after : Program → List RunStep → MachineStep → Step
-step_after guest past told = record {
+step_after guest past outcome = record {
   on_stack = record {
-    event = told.event;
-    cost = event_cost guest.options.branch guest.options.shapes (events_of past) told.event;
-    stack = stack_at guest.syms (steps_of past) told.event.thread.0 told.event.done.pc;
+    event = outcome.event;
+    cost = event_cost guest.options.branch guest.options.shapes (events_of past) outcome.event;
+    stack = stack_at guest.syms (steps_of past) outcome.event.thread.0 outcome.event.done.pc;
   };
-  wait = told.wait;
-  woken = told.woken;
+  wait = outcome.wait;
+  woken = outcome.woken;
 }
 
 abbrev pub run_step : Program → List RunStep → MachineStep → RunStep
-run_step guest past told = record {
-  step = step_after guest past told;
-  output = told.output;
-  threads = told.threads;
+run_step guest past outcome = record {
+  step = step_after guest past outcome;
+  output = outcome.output;
+  threads = outcome.threads;
 }
 
 -- ---- the ends, in the order in which they are looked at before a step is tried

@@ -4,15 +4,17 @@ ghost use Rattle.std.specs.Prelude.{◌≡◌, ◌<◌, ◌≤◌, ◌^◌, ◌+
 ghost use Rattle.std.specs.Prelude.{ℕ, List, None, OnOk, is_some, length, true};
 ghost use Rattle.part_dump.specs.Cuts.{every_cut};
 ghost use Rattle.event_costs.specs.declared.numbers.ThreadNo.{ThreadNo as ThreadNoValue};
+ghost use Rattle.cache_lru.specs.Costs.{RunCosts as RunCostsValue};
 ghost use Rattle.recorder.specs.Accounts.{account, live};
 ghost use Rattle.profile_run.specs.Program.{Program as ProgramValue};
 ghost use Rattle.profile_run.specs.Trace.{RunStep, exit_end, frames_end, waiting_end, or_else, budget_end, run_step};
-ghost use Rattle.profile_run.specs.inner.Standing.{Begins, CanCount, IsCounted, IsMade, OnlyAdds, Prepares, is_exit};
+ghost use Rattle.profile_run.specs.inner.Standing.{Begins, CanCount, CanTell, IsCostOf, IsCounted, IsMade};
+ghost use Rattle.profile_run.specs.inner.Standing.{OnlyAdds, Prepares, is_exit};
 ghost use Rattle.guest_sched.specs.Machine.{ended};
 
 use byte_text::OutOfMemory;
 use cache_lru::RunCosts;
-use event_costs::{End, Event, Noted, ThreadNo};
+use event_costs::{End, Event, Noted, Ones, ThreadNo};
 use guest_sched::Machine;
 use part_dump::{DumpRule, Watch};
 use recorder::{MOST_FRAMES, Recorder};
@@ -138,7 +140,7 @@ impl Counting {
             → (made : IsMade W.meaning guest first past event.now self.old.machine self.old.costs self.old.recorder
             watch.old)
             → guest.syms ≡ syms.now → guest.options.budget ≤ 10 ^ 12
-            → IsCounted W.meaning guest first past (run_step guest past made.told) rule.now.after result.noted
+            → IsCounted W.meaning guest first past (run_step guest past made.outcome) rule.now.after result.noted
             self.new.machine self.new.costs self.new.recorder watch.new }
         ensures machine { self.new.machine ≡ self.old.machine }
         ensures plain { result.plain ≡ true
@@ -188,7 +190,7 @@ impl Counting {
             → (made : IsMade W.meaning guest first past event.now self.old.machine self.old.costs self.old.recorder
             watch.old)
             → guest.syms ≡ syms.now → guest.options.budget ≤ 10 ^ 12
-            → IsCounted W.meaning guest first past (run_step guest past made.told) rule.now.after result
+            → IsCounted W.meaning guest first past (run_step guest past made.outcome) rule.now.after result
             self.new.machine self.new.costs self.new.recorder watch.new }
         ensures machine { self.new.machine ≡ self.old.machine }
     {
@@ -214,14 +216,41 @@ impl Counting {
             → (made : IsMade W.meaning guest first past event.now self.old.machine self.old.costs self.old.recorder
             watch.old)
             → guest.syms ≡ syms.now → guest.options.budget ≤ 10 ^ 12
-            → IsCounted W.meaning guest first past (run_step guest past made.told) rule.now.after result
+            → IsCounted W.meaning guest first past (run_step guest past made.outcome) rule.now.after result
             self.new.machine self.new.costs self.new.recorder watch.new }
         ensures machine { self.new.machine ≡ self.old.machine }
     {
         let ones = self.costs.ones(event);
+        // It is told either way: what is known of a plain event needn't be asked again then.
+        if self.recorder.is_plain(event, syms) {
+            return self.tell(event, &ones, rule, watch, syms);
+        }
+        self.tell(event, &ones, rule, watch, syms)
+    }
+
+    /// Notes a step whose cost is known, and tells the watch.
+    #[inline(always)]
+    fn tell<W: Watch>(
+        &mut self,
+        event: &Event,
+        ones: &Ones,
+        rule: &DumpRule,
+        watch: &mut W,
+        syms: &SymMap,
+    ) -> Noted
+        requires { CanTell W.meaning W.fresh syms.now event.now self.old.machine self.old.costs self.old.recorder
+            watch.old ones.now }
+        ensures counted { (before : RunCostsValue) (guest : ProgramValue) (first : W) (past : List RunStep)
+            → (made : IsMade W.meaning guest first past event.now self.old.machine before self.old.recorder watch.old)
+            → IsCostOf event.now before self.old.costs ones.now
+            → guest.syms ≡ syms.now → guest.options.budget ≤ 10 ^ 12
+            → IsCounted W.meaning guest first past (run_step guest past made.outcome) rule.now.after result
+            self.new.machine self.new.costs self.new.recorder watch.new }
+        ensures machine { self.new.machine ≡ self.old.machine }
+    {
         let noted = self
             .recorder
-            .note_event(event, &ones, syms, rule.after_set());
+            .note_event(event, ones, syms, rule.after_set());
         let cost = ones.cost();
         watch.seen(
             event,

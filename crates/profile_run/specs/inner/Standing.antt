@@ -1,7 +1,7 @@
 -- How a run stands after some steps.
 use Rattle.std.specs.Prelude.{◌≡◌, ◌≢◌, ℕ, ◌+◌, ◌-◌, ◌^◌, ◌<◌, ◌≤◌, ◌⊎◌, Bool, true, false, List, [], ◌∷◌, ◌++◌, length}
 use Rattle.std.specs.Prelude.{map, IfOk, Option, None, Some, option_map, Result, Ok, Err, flat_map, nat_lt}
-use Rattle.std.specs.Prelude.{if◌then◌else◌}
+use Rattle.std.specs.Prelude.{if◌then◌else◌, All}
 use Rattle.outside.specs.Files.{Rose}
 use Rattle.outside.specs.Outside.{Named, Outside, Shelf, Stream, puts_of, shelf, with_files}
 use Rattle.outside.specs.Journal.{AreRefusedOf, AreWritten, Call as ToldCall, Put, TellsMore, TellsWrites, Wrote}
@@ -17,7 +17,7 @@ use Rattle.event_costs.specs.declared.outcome.End.{End}
 use Rattle.event_costs.specs.declared.outcome.End.TheVariants.{Exited}
 use Rattle.event_costs.specs.declared.outcome.Noted.{Noted}
 use Rattle.cg_format.specs.declared.trigger.Trigger.{Trigger}
-use Rattle.cache_lru.specs.Costs.{RunCosts, StandForRun}
+use Rattle.cache_lru.specs.Costs.{RunCosts, Shapes, StandForRun, event_cost}
 use Rattle.guest_load.specs.First.{guest_at_start}
 use Rattle.sym_map.specs.SymbolMap.{SymbolMap}
 use Rattle.shadow_stack.specs.Changes.{after}
@@ -167,11 +167,11 @@ pub record IsMade {W : Type 0} (m : Meaning W) (guest : Program) (first : W) (pa
     (machine : Machine) (costs : RunCosts) (r : Recording) (watch : W) : Type 0 where
   pub before : Machine
   pub begun : HasBegun m guest first past before costs r watch
-  pub told : MachineStep
-  pub makes : next before ≡ Ok (told, machine)
-  pub wait : told.wait ≡ machine.wait
-  pub woken : told.woken ≡ machine.woken
-  pub event : told.event ≡ e
+  pub outcome : MachineStep
+  pub makes : next before ≡ Ok (outcome, machine)
+  pub wait : outcome.wait ≡ machine.wait
+  pub woken : outcome.woken ≡ machine.woken
+  pub event : outcome.event ≡ e
 
 -- a step can be counted: it was made in some run, of a watch that was fresh
 pub record CanCount {W : Type 0} (m : Meaning W) (fresh : W → SymbolMap → Type 0) (syms : SymbolMap) (event : Event)
@@ -183,6 +183,23 @@ pub record CanCount {W : Type 0} (m : Meaning W) (fresh : W → SymbolMap → Ty
   pub long : guest.options.budget ≤ 10 ^ 12
   pub past : List RunStep
   pub made : IsMade m guest first past event machine costs r watch
+
+-- A cost is that of an event where the costs before it stand for the events so far, and the ones after it then stand for
+-- the events with it.
+pub record IsCostOf (event : Event) (before after : RunCosts) (cost : List ℕ) : Type 0 where
+  pub is : (branches : Bool) (shapes : Shapes) (events : List Event) → StandForRun branches shapes before events
+      → cost ≡ event_cost branches shapes events event
+  pub stands : (branches : Bool) (shapes : Shapes) (events : List Event) → StandForRun branches shapes before events
+      → StandForRun branches shapes after (events ++ event ∷ [])
+  pub ones : (branches : Bool) (shapes : Shapes) (events : List Event) → StandForRun branches shapes before events
+      → All (λ n. n ≤ 1) cost
+
+-- a step can be told of which the cost is known
+pub record CanTell {W : Type 0} (m : Meaning W) (fresh : W → SymbolMap → Type 0) (syms : SymbolMap) (event : Event)
+    (machine : Machine) (costs : RunCosts) (r : Recording) (watch : W) (cost : List ℕ) : Type 0 where
+  pub before : RunCosts
+  pub can : CanCount m fresh syms event machine before r watch
+  pub costed : IsCostOf event before costs cost
 
 -- what a note says of the accounts, for an event of a thread at a cost
 pub record IsNote (syms : SymbolMap) (event : Event) (cost : List ℕ) (r s : Recording) : Type 0 where
@@ -221,12 +238,12 @@ pub record TakesFront (error : WriteError) (bytes : List ℕ) (old new : Stream)
   pub front : IsFrontOf count bytes
   pub short : length count < length bytes
   pub taken : new.taken ≡ taken_more old.taken count
-  pub told : TellsWrites {U = Unit {0}} old.writes bytes (Err error) new.writes
+  pub writes : TellsWrites {U = Unit {0}} old.writes bytes (Err error) new.writes
 
 -- all of them were taken
 pub record TakesAll (bytes : List ℕ) (old new : Stream) : Type 0 where
   pub taken : new.taken ≡ taken_more old.taken bytes
-  pub told : TellsWrites {U = Unit {0}} old.writes bytes (Ok tt) new.writes
+  pub writes : TellsWrites {U = Unit {0}} old.writes bytes (Ok tt) new.writes
 
 abbrev pub Takes : {A : Type 0} → List ℕ → Stream → Result A RunFault → Stream → Type 0
 Takes bytes old (Ok _) new = TakesAll bytes old new
@@ -530,7 +547,7 @@ pub record Ending {W : Type 0} (m : Meaning W) (job : Job W) (given : End) (coun
   pub past : List RunStep
   pub stop : Stop
   pub end : stop.end ≡ given
-  pub over : IsOver m job.guest job.first past stop counting.machine counting.recorder parts.head watch
+  pub is_over : IsOver m job.guest job.first past stop counting.machine counting.recorder parts.head watch
   pub put : HasPut job.guest.options.base (files_at m job.guest job.first (steps_of past)) (shelf job.old) (shelf now)
       parts.put.items
   pub sent : HasSent past job.old now

@@ -10,7 +10,7 @@ returns-in_default-clause-stands c =
     λ branches shapes events stand.
     let held = subst (λ (k : RunCosts). StandForRun branches shapes k events) (sym c.self.view_is) stand in
     record {
-      caches = c.refer-missed.ensures.stands shapes events held.caches;
+      caches = c.missed-missed.ensures.stands shapes events held.caches;
       tables = without branches c.self.inside.predictors events _ held.tables c.in_default.not-Some;
     }
 
@@ -20,7 +20,7 @@ returns-clause-stands c =
     let held = subst (λ (k : RunCosts). StandForRun branches shapes k events) (sym c.self.view_is) stand in
     let there = asked branches c.self.inside.predictors events c.in-Some.predictors held.tables c.in-Some.is in
     record {
-      caches = c.refer-missed.ensures.stands shapes events held.caches;
+      caches = c.missed-missed.ensures.stands shapes events held.caches;
       tables = subst (λ (b : Bool). TablesStandWhere b (Some c.predict-fails.new.self) (events ++ c.args.event.now ∷ []))
           (sym there.0) (c.predict-fails.ensures.stands events there.1);
     }
@@ -32,7 +32,7 @@ returns-in_default-clause-cost c =
     let no = unasked branches c.self.inside.predictors events held.tables c.in_default.not-Some in
     c.ones_of-ones.ensures
     ∙ event_cost-is branches shapes events c.args.event.now _ no_kind
-    (c.refer-missed.ensures.misses shapes events held.caches)
+    (c.missed-missed.ensures.misses shapes events held.caches)
     (λ kind. sym (ap (λ (b : Bool). counts_as_branch b events c.args.event.now kind) no))
 
 pub returns-in_default-clause-ones : goal.returns-in_default-clause-ones
@@ -49,7 +49,7 @@ returns-clause-cost c =
     let branch = c.args.event.now.done.branch in
     c.with_branch.ensures.event c.args.event.now.done.touch _ c.ones_of-ones.ensures
     ∙ event_cost-is branches shapes events c.args.event.now _ (branch_counts branch c.predict-fails.result)
-    (c.refer-missed.ensures.misses shapes events held.caches)
+    (c.missed-missed.ensures.misses shapes events held.caches)
     (λ kind. ap (λ (fails : Bool). branch_counts branch fails kind) (c.predict-fails.ensures.fails events there.1)
     ∙ sym (ap (λ (b : Bool). counts_as_branch b events c.args.event.now kind) there.0))
 

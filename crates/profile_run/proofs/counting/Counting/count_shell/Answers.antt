@@ -16,7 +16,7 @@ returns-clause-counted g c =
     → (made : IsMade g.W.Watch.meaning guest first past e c.args.self.now.machine c.args.self.now.costs
     c.args.self.now.recorder c.args.watch.now)
     → guest.syms ≡ c.args.syms.now → guest.options.budget ≤ 10 ^ 12
-    → IsCounted g.W.Watch.meaning guest first past (run_step guest past made.told) c.args.rule.now.after
+    → IsCounted g.W.Watch.meaning guest first past (run_step guest past made.outcome) c.args.rule.now.after
     c.count_cold-noted.result c.count_cold-noted.new.self.machine c.count_cold-noted.new.self.costs
     c.count_cold-noted.new.self.recorder c.count_cold-noted.new.watch) c.copied-event.ensures
     c.count_cold-noted.ensures.counted
