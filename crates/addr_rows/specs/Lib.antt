@@ -9,3 +9,4 @@ pub mod Telling
 pub mod Watching
 pub mod Files
 pub mod Translated
+pub mod inner

@@ -9,6 +9,7 @@ use arc_costs::{ArcRow, LineRow};
 use byte_text::OutOfMemory;
 use cg_format::Row;
 use std::alloc::Global;
+use std::marker::Model;
 
 /// A line row or an arc row.
 #[derive(Clone, Copy)]
@@ -34,38 +35,77 @@ pub(crate) fn plain_row(row: &AddrRow) -> Row
     }
 }
 
-/// The number of the function of the line, or of the caller of the arc.
-fn function_number(row: &AddrRow) -> u32
-    ensures { result ≡ (function_of (plain_row row.now)).0 }
-{
-    match row {
-        AddrRow::Line(row) => row.place.func.0,
-        AddrRow::Arc(row) => row.arc.caller.0,
+/// A line row or an arc row that stands elsewhere.
+#[derive(Clone, Copy)]
+enum AnyRow<'a> {
+    Line(&'a AddrLine),
+    Arc(&'a AddrArc),
+}
+
+/// A row that stands elsewhere, so that rows are ordered without a copy of each. Contracts see the row.
+#[derive(Drop)]
+pub(crate) struct RowRef<'a> {
+    row: AnyRow<'a>,
+}
+
+impl<'a> Model for RowRef<'a> {
+    ghost use Rattle.addr_rows.specs.declared.row.AddrRow.{AddrRow};
+    ghost use Rattle.addr_rows.specs.inner.Refs.{row_of};
+
+    ghost Value = { AddrRow };
+
+    ghost view = { λ r. row_of r.row };
+}
+
+impl<'a> RowRef<'a> {
+    /// The row.
+    pub(crate) fn copied(&self) -> AddrRow
+        ensures { result ≡ self.now }
+    {
+        match self.row {
+            AnyRow::Line(row) => AddrRow::Line(*row),
+            AnyRow::Arc(row) => AddrRow::Arc(*row),
+        }
+    }
+
+    /// The number of the function of the line, or of the caller of the arc.
+    fn function_number(&self) -> u32
+        ensures { result ≡ (function_of (plain_row self.now)).0 }
+    {
+        match self.row {
+            AnyRow::Line(row) => row.place.func.0,
+            AnyRow::Arc(row) => row.arc.caller.0,
+        }
     }
 }
 
 /// The line rows, and then the arc rows.
-fn all_rows(alloc: Global, rows: &AddrRows) -> Result<Vec<AddrRow>, OutOfMemory>
+fn all_rows<'a>(alloc: Global, rows: &'a AddrRows) -> Result<Vec<RowRef<'a>>, OutOfMemory>
     ensures { IfOk result (λ all. all.items ≡ all_rows rows.now.rows) }
 {
     let mut all = Vec::with_capacity(alloc, rows.lines.len())?;
     'lines: for row in &rows.lines {
-        all.push(AddrRow::Line(*row))?;
+        let row = AnyRow::Line(row);
+        all.push(RowRef { row })?;
     }
     'arcs: for row in &rows.arcs {
-        all.push(AddrRow::Arc(*row))?;
+        let row = AnyRow::Arc(row);
+        all.push(RowRef { row })?;
     }
     Ok(all)
 }
 
 /// All rows by rising function; those of a function stay in their order, line rows first.
-pub(crate) fn rows_by_function(alloc: Global, rows: &AddrRows) -> Result<Vec<AddrRow>, OutOfMemory>
+pub(crate) fn rows_by_function<'a>(
+    alloc: Global,
+    rows: &'a AddrRows,
+) -> Result<Vec<RowRef<'a>>, OutOfMemory>
     ensures permutation { IfOk result (λ sorted. IsPermutation (all_rows rows.now.rows) sorted.items) }
     ensures rows { IfOk result (λ sorted. (functions : ℕ)
         → All (λ row. (function_of (plain_row row)).0 < functions) (all_rows rows.now.rows)
         → sorted.items ≡ by_function functions (all_rows rows.now.rows)) }
 {
     let mut sorted = all_rows(alloc, rows)?;
-    sorted.sort_by_key(|row| function_number(row))?;
+    sorted.sort_by_key(|row| row.function_number())?;
     Ok(sorted)
 }

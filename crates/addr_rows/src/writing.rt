@@ -156,7 +156,7 @@ pub fn write_addr(
     let mut writer = Writer::new(alloc);
     put_heading(alloc, &mut writer, head, &sum)?;
     'rows: for row in &sorted {
-        put_row(alloc, &mut writer, head, syms, row)?;
+        put_row(alloc, &mut writer, head, syms, &row.copied())?;
     }
     put_totals(&mut writer, head, &sum)?;
     Ok(writer.into_text())

@@ -4,3 +4,4 @@ pub mod Part
 pub mod Rows
 pub mod Standing
 pub mod Sums
+pub mod inner

@@ -165,7 +165,7 @@ pub fn write_named<M: Number, N: Naming>(
     let mut writer = Writer::new(alloc);
     put_heading(alloc, &mut writer, head, &sum)?;
     'rows: for row in &sorted {
-        put_row(alloc, &mut writer, head, names, row)?;
+        put_row(alloc, &mut writer, head, names, &row.wide())?;
     }
     put_totals(&mut writer, head, &sum)?;
     Ok(writer.into_text())

@@ -7,6 +7,7 @@ use arc_costs::{ArcRow, LineRow, TableRows};
 use byte_text::OutOfMemory;
 use event_costs::{ContextNo, FileId, Number};
 use std::alloc::Global;
+use std::marker::Model;
 
 /// A line row or an arc row, with numbers of 64 bits.
 #[derive(Clone, Copy, Debug)]
@@ -37,25 +38,74 @@ impl Row {
     }
 }
 
+/// A line row or an arc row that stands elsewhere, with numbers of any type.
+#[derive(Clone, Copy)]
+enum AnyRow<'a, N: Number> {
+    Line(&'a LineRow<N>),
+    Arc(&'a ArcRow<N>),
+}
+
+/// A row that stands elsewhere, so that rows are ordered without a copy of each. Contracts see the row.
+#[derive(Drop)]
+pub(crate) struct RowRef<'a, N: Number> {
+    row: AnyRow<'a, N>,
+}
+
+impl<'a, N: Number> Model for RowRef<'a, N> {
+    ghost use Rattle.cg_format.specs.declared.row.Row.{Row};
+    ghost use Rattle.cg_format.specs.inner.Refs.{row_of};
+
+    ghost Value = { Row };
+
+    ghost view = { λ r. row_of r.row };
+}
+
+impl<'a, N: Number> RowRef<'a, N> {
+    /// The row, with numbers of 64 bits.
+    pub(crate) fn wide(&self) -> Row
+        ensures { result ≡ self.now }
+    {
+        match self.row {
+            AnyRow::Line(row) => Row::Line(row.wide()),
+            AnyRow::Arc(row) => Row::Arc(row.wide()),
+        }
+    }
+
+    /// The function of the line, or the caller of the arc.
+    fn function(&self) -> ContextNo
+        ensures { result ≡ function_of self.now }
+    {
+        match self.row {
+            AnyRow::Line(row) => row.place.func.wide(),
+            AnyRow::Arc(row) => row.arc.caller.wide(),
+        }
+    }
+}
+
 /// The line rows, and then the arc rows.
-fn all_rows<N: Number>(alloc: Global, rows: &TableRows<N>) -> Result<Vec<Row>, OutOfMemory>
+fn all_rows<'a, N: Number>(
+    alloc: Global,
+    rows: &'a TableRows<N>,
+) -> Result<Vec<RowRef<'a, N>>, OutOfMemory>
     ensures { IfOk result (λ all. all.items ≡ all_rows rows.now) }
 {
     let mut all = Vec::with_capacity(alloc, rows.lines.len())?;
     'lines: for row in &rows.lines {
-        all.push(Row::Line(row.wide()))?;
+        let row = AnyRow::Line(row);
+        all.push(RowRef { row })?;
     }
     'arcs: for row in &rows.arcs {
-        all.push(Row::Arc(row.wide()))?;
+        let row = AnyRow::Arc(row);
+        all.push(RowRef { row })?;
     }
     Ok(all)
 }
 
 /// All rows by rising function; those of a function stay in their order, line rows first.
-pub(crate) fn rows_by_function<N: Number>(
+pub(crate) fn rows_by_function<'a, N: Number>(
     alloc: Global,
-    rows: &TableRows<N>,
-) -> Result<Vec<Row>, OutOfMemory>
+    rows: &'a TableRows<N>,
+) -> Result<Vec<RowRef<'a, N>>, OutOfMemory>
     ensures permutation { IfOk result (λ sorted. IsPermutation (all_rows rows.now) sorted.items) }
     ensures rows { IfOk result (λ sorted. (functions : ℕ)
         → All (λ row. (function_of row).0 < functions) (all_rows rows.now)

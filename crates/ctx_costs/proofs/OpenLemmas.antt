@@ -29,6 +29,10 @@ pub open_items : (kind : ℕ) (total : List ℕ) (arc : ArcKey) (items : List Fr
 open_items kind total arc items =
     sum_by-IsPermutation (open_share kind total arc) items (reverse items) (IsPermutation-reverse items)
 
+-- rows stand for themselves
+pub own_sums : (rows : List ArcRow) → ArcsStandFor rows rows
+own_sums rows = record { calls = λ arc. refl; costs = λ kind arc. refl }
+
 pub cut_of : {E : Type 0} (r : Result Listed E) (a : Account) (lines : List LineRow) (arcs : List ArcRow)
     → ((kind : ℕ) (place : Place) → line_sum kind place lines ≡ line_sum kind place a.lines)
     → ((kind : ℕ) (arc : ArcKey) → arc_sum kind arc arcs ≡ arc_sum kind arc a.arcs + open_sum kind a.total arc a.frames)
@@ -41,8 +45,7 @@ pub cut_of : {E : Type 0} (r : Result Listed E) (a : Account) (lines : List Line
     → IfOk r (λ rows. (additions : List ArcRow) → ArcsStandFor arcs additions → ArcsStandFor rows.arcs additions)
     → IfOk r (IsCutOf a)
 cut_of (Ok rows) a lines arcs lined costed called moved also rise climb stands also_stands =
-    let sums : ArcsStandFor rows.arcs arcs
-    = also_stands arcs (record { calls = λ arc. refl; costs = λ kind arc. refl }) in
+    let sums = also_stands arcs (own_sums arcs) in
     record {
       lines = λ kind place. stands lines (λ k p. refl) kind place ∙ lined kind place;
       arcs = λ kind arc. sums.costs kind arc ∙ costed kind arc;

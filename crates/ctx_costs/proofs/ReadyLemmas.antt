@@ -196,7 +196,7 @@ pub reserved_watch : (callers : ℕ) (held now : Held) (books : List Book) (read
     → IsWatching callers now books ready
 reserved_watch callers held now books ready contexts room watching = record {
   few = watching.few;
-  kept = subst (λ (cs : List Context). AllByRecursion (IsKept callers cs) books) (sym contexts) watching.kept;
+  each = subst (λ (cs : List Context). AllByRecursion (IsKept callers cs) books) (sym contexts) watching.each;
   apart = watching.apart;
   distinct = subst AreDistinct (sym contexts) watching.distinct;
   filled = subst (λ (cs : List Context). AllByRecursion (λ (d : Context). 0 < length d) cs)
@@ -224,7 +224,7 @@ module _ (callers : ℕ) (held now : Held) (books : List Book) (ready : Option T
         (sym begins.contexts)
         (all_more (IsKept callers (with_context held.contexts (func.0 ∷ []))) books begins.book
         (all_weaker (IsKept callers held.contexts) (IsKept callers (with_context held.contexts (func.0 ∷ []))) books
-        (λ b kept. kept_more callers held.contexts (func.0 ∷ []) b kept) watching.kept) begun_kept)
+        (λ b kept. kept_more callers held.contexts (func.0 ∷ []) b kept) watching.each) begun_kept)
 
     own_thread : begins.book.thread.0 ≡ thread.0
     own_thread = ap (λ (t : Track). t.thread.0) begins.track
@@ -237,7 +237,7 @@ module _ (callers : ℕ) (held now : Held) (books : List Book) (ready : Option T
     all_now : IsWatching callers now (books ++ begins.book ∷ []) (Some thread)
     all_now = record {
       few = watching.few;
-      kept = kept_now;
+      each = kept_now;
       apart = apart_now;
       distinct = subst AreDistinct (sym begins.contexts) (distinct_with held.contexts (func.0 ∷ []) watching.distinct);
       filled =
@@ -291,7 +291,7 @@ module _ (callers : ℕ) (held now : Held) (books : List Book) (ready : Option T
 
     new_kept : IsKept callers held.contexts new
     new_kept =
-        let was = kept_at books place watching.kept less in
+        let was = kept_at books place watching.each less in
         record {
           starts = subst (λ (fs : List Frame). StartWithin no_cost fs) (sym (stack new)) was.starts;
           sound = subst (λ (t : Track). IsSound callers held.contexts t) (sym (track new)) was.sound;
@@ -300,7 +300,7 @@ module _ (callers : ℕ) (held now : Held) (books : List Book) (ready : Option T
     all_kept : AllByRecursion (IsKept callers now.contexts) (slice_set books place new)
     all_kept =
         subst (λ (cs : List Context). AllByRecursion (IsKept callers cs) (slice_set books place new)) (sym contexts)
-        (all_set (IsKept callers held.contexts) books place new watching.kept new_kept)
+        (all_set (IsKept callers held.contexts) books place new watching.each new_kept)
 
     threads_now : AreApart (threads_of (slice_set books place new))
     threads_now =
@@ -310,7 +310,7 @@ module _ (callers : ℕ) (held now : Held) (books : List Book) (ready : Option T
         → IsWatching callers now (slice_set books place new) r
     known_watch r roomy = record {
       few = watching.few;
-      kept = all_kept;
+      each = all_kept;
       apart = threads_now;
       distinct = subst AreDistinct (sym contexts) watching.distinct;
       filled =

@@ -42,7 +42,7 @@ pub as_ready : (callers : ℕ) (held : Held) (books : List Book) (stepped : Bool
 as_ready callers held books false roomy watching = watching
 as_ready callers held books true roomy watching = record {
   few = watching.few;
-  kept = watching.kept;
+  each = watching.each;
   apart = watching.apart;
   distinct = watching.distinct;
   filled = watching.filled;
@@ -109,7 +109,7 @@ module _ (callers : ℕ) (held now : Held) (books : List Book) (ready : Option T
     pub here_kept : IsKept callers held.contexts old
     here_kept =
         subst (λ (b : Book). IsKept callers held.contexts b) (sym old_is)
-        (all_at (IsKept callers held.contexts) books place d watching.kept less)
+        (all_at (IsKept callers held.contexts) books place d watching.each less)
 
     pub here_framed : 0 < length (track w thread).stack → 0 < length old.frames.items
     here_framed some =
@@ -138,7 +138,7 @@ module _ (callers : ℕ) (held now : Held) (books : List Book) (ready : Option T
         → new.thread ≡ old.thread → IsRoomy new → IsWatching callers held (slice_set books place new) ready
     plain_watch new kept same room = record {
       few = watching.few;
-      kept = all_set (IsKept callers held.contexts) books place new watching.kept kept;
+      each = all_set (IsKept callers held.contexts) books place new watching.each kept;
       apart = apart_now new same;
       distinct = watching.distinct;
       filled = watching.filled;
@@ -160,11 +160,11 @@ module _ (callers : ℕ) (held now : Held) (books : List Book) (ready : Option T
       pub seen_watch : IsWatching callers now (slice_set books place new) None
       seen_watch = record {
         few = watching.few;
-        kept =
+        each =
             all_set (IsKept callers now.contexts) books place new
             (all_weaker (IsKept callers held.contexts) (IsKept callers now.contexts) books
             (λ b was. subst (λ (cs : List Context). IsKept callers cs b) (sym contexts)
-            (kept_with callers held.contexts made.rest made.pushed b was)) watching.kept) kept;
+            (kept_with callers held.contexts made.rest made.pushed b was)) watching.each) kept;
         apart = apart_now new same_thread;
         distinct =
             subst AreDistinct (sym contexts)
@@ -224,7 +224,7 @@ module _ (callers : ℕ) (held now : Held) (books : List Book) (ready : Option T
       pub cut_watch : (IsRoomy old → IsRoomy new) → IsWatching callers held (slice_set books place new) ready
       cut_watch room_kept = record {
         few = watching.few;
-        kept = all_set (IsKept callers held.contexts) books place new watching.kept new_kept;
+        each = all_set (IsKept callers held.contexts) books place new watching.each new_kept;
         apart = apart_now new same.thread;
         distinct = watching.distinct;
         filled = watching.filled;

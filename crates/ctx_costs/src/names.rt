@@ -92,9 +92,9 @@ pub(crate) fn named_rows(
     ensures rows { IfOk result (λ named. AreNamedRows contexts.now.contexts rows.now named.rows) }
 {
     let mut lines = named_lines(alloc, &rows.lines, contexts)?;
-    lines.sort_by(|x, y| by_line(x, y))?;
+    lines.sort_unstable_by(|x, y| by_line(x, y));
     let mut arcs = named_arcs(alloc, &rows.arcs, contexts)?;
-    arcs.sort_by(|x, y| by_arc(x, y))?;
+    arcs.sort_unstable_by(|x, y| by_arc(x, y));
     Ok(CtxRows {
         thread,
         lines,

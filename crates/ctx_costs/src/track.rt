@@ -1,12 +1,13 @@
 //! What is kept of one thread.
 
-ghost use Rattle.std.specs.Prelude.{◌≡◌, ◌+◌, ◌-◌, ◌<◌, ◌≤◌, ◌^◌, ◌∷◌, [], ℕ, All, IfOk, None, OnErr, OnOk, Some, drop};
+ghost use Rattle.std.specs.Prelude.{◌≡◌, ◌+◌, ◌-◌, ◌<◌, ◌≤◌, ◌^◌, ◌∷◌, ◌++◌, [], ℕ, All, IfOk, List, None, OnErr, OnOk, Some, drop};
 ghost use Rattle.std.specs.Prelude.{if◌then◌else◌, is_some, length, slice_index, take, true, vec_capacity};
 ghost use Rattle.std.specs.List.{AllZip};
 ghost use Rattle.event_costs.specs.Arcs.{Pushed};
 ghost use Rattle.event_costs.specs.Costs.{IsWhole, no_cost, sum_of_costs};
 ghost use Rattle.event_costs.specs.Keys.{ArcKey as ArcKeyValue, Place as PlaceValue};
-ghost use Rattle.arc_costs.specs.Arcs.{arc_sum, call_sum, cleared_arcs};
+ghost use Rattle.arc_costs.specs.Arcs.{ArcsStandFor, arc_sum, call_sum, cleared_arcs};
+ghost use Rattle.arc_costs.specs.Rows.{ArcRow as ArcRowValue};
 ghost use Rattle.arc_costs.specs.Lines.{add_line, cleared_lines, has_line, line, line_index, line_sum};
 ghost use Rattle.event_costs.specs.Order.{same_place};
 ghost use Rattle.recorder.specs.Notes.{open_sum, rows_of_tellings};
@@ -24,7 +25,7 @@ ghost use Rattle.ctx_rows.specs.Tracks.{account_of};
 
 use crate::entered::Entered;
 use crate::pushes::Pushes;
-use arc_costs::{ArcRow, TableRows, Tables};
+use arc_costs::{TableRows, Tables};
 use byte_text::OutOfMemory;
 use event_costs::{ArcKey, ContextNo, Cost, Event, FuncId, Number, Place, ThreadNo};
 use recorder::EventCost;
@@ -287,25 +288,22 @@ impl<N: Number> Track<N> {
             .unwrap();
     }
 
-    /// What the open frames have cost since their starts, as rows of their arcs.
-    fn open_rows(&self) -> Result<TableRows<N>, OutOfMemory>
+    /// Adds to rows what the open frames have cost since their starts, without a list of them.
+    fn add_open(&self, rows: &mut Tables<N>) -> Result<(), OutOfMemory>
         requires starts { StartWithin self.now.total self.now.frames.items }
-        ensures lines { IfOk result (λ rows. rows.lines ≡ []) }
-        ensures arcs { IfOk result (λ rows. rows.arcs ≡ rows_of_tellings (closings self.now.total self.now.frames.items)) }
+        requires fits { (kind : ℕ) (arc : ArcKeyValue) → arc_sum kind arc rows.old.arcs
+            + open_sum kind self.now.total arc self.now.frames.items < 2 ^ 64 }
+        ensures lines { OnOk result (rows.new.lines ≡ rows.old.lines) }
+        ensures stands { OnOk result ((additions : List ArcRowValue) → ArcsStandFor rows.old.arcs additions
+            → ArcsStandFor rows.new.arcs (additions ++ rows_of_tellings (closings self.now.total self.now.frames.items))) }
     {
-        let lines = Vec::new(self.alloc);
-        let mut arcs = Vec::new(self.alloc);
         'frames: for frame in &self.frames {
             if let Some(arc) = frame.arc() {
-                let cost = frame.cost(&self.total);
-                arcs.push(ArcRow {
-                    arc,
-                    calls: 0,
-                    cost,
-                })?;
+                rows.reserve()?;
+                rows.add_arc(&arc, &frame.cost(&self.total));
             }
         }
-        Ok(TableRows { lines, arcs })
+        Ok(())
     }
 
     /// The rows since the last cut, the costs of open frames counted in.
@@ -319,11 +317,12 @@ impl<N: Number> Track<N> {
         ensures whole_lines { IfOk result (λ rows. All (λ row. IsWhole row.cost) rows.lines) }
         ensures whole_arcs { IfOk result (λ rows. All (λ row. IsWhole row.cost) rows.arcs) }
     {
+        if self.frames.is_empty() {
+            return self.rows.sorted();
+        }
         let mut all = Tables::new(self.alloc);
-        let counted = self.rows.sorted()?;
-        all.merge(&counted)?;
-        let open = self.open_rows()?;
-        all.merge(&open)?;
+        all.merge(&self.rows.sorted()?)?;
+        self.add_open(&mut all)?;
         all.sorted()
     }
 

@@ -100,7 +100,7 @@ IsReadyFor ready b = (ready ≡ Some b.thread) → IsRoomy b
 -- for a step of the thread that is ready.
 pub record IsWatching (callers : ℕ) (held : Held) (books : List Book) (ready : Option ThreadNo) : Type 0 where
   pub few : callers ≤ 16
-  pub kept : AllByRecursion (IsKept callers held.contexts) books
+  pub each : AllByRecursion (IsKept callers held.contexts) books
   pub apart : AreApart (map (λ (b : Book). b.thread) books)
   pub distinct : AreDistinct held.contexts
   pub filled : AllByRecursion (λ c. 0 < length c) held.contexts

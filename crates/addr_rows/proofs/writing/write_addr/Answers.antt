@@ -5,7 +5,7 @@ use Rattle.arc_costs.specs.Contents.{Listed}
 use Rattle.cg_format.specs.Marks.{Mark, Plain}
 use Rattle.cg_format.specs.Standing.{WriterState}
 use Rattle.cg_format.specs.Sums.{sum_of_lines}
-use Rattle.addr_rows.specs.Texts.{after_row, heading}
+use Rattle.addr_rows.specs.Texts.{IsKnown, after_row, heading}
 use Rattle.addr_rows.proofs.KnownLemmas.{functions_below, known_row}
 use Rattle.addr_rows.proofs.TextLemmas.{whole_part}
 use Rattle.addr_rows.proofs.writing.write_addr.Goals as goal
@@ -15,10 +15,11 @@ rows-init c = c.in_ok-put_heading.ensures c.args.syms.now [] (c.new-writer.ensur
 
 pub put_row-requires : goal.put_row-requires
 put_row-requires c =
-    known_row c.args.syms.now c.args.rows.now.rows c.in_ok-sorted.sorted.items c.deref-row-items.result.now
-    c.rows.row-index
+    let m = c.args.syms.now in
+    subst (IsKnown m) (sym c.copied.ensures)
+    (known_row m c.args.rows.now.rows c.in_ok-sorted.sorted.items c.deref-row-items.result.now c.rows.row-index
     c.row-item.result c.requires c.in_ok-sorted.ensures.permutation c.deref-row-items.ensures.value (omega arith)
-    c.row-item.is
+    c.row-item.is)
 
 pub rows-preserved : goal.rows-preserved
 rows-preserved c =
@@ -29,7 +30,7 @@ rows-preserved c =
     let i = c.rows.row-index in
     let written : List Mark → Type 0 = λ lines. WriterState m lines c.put_row.new.writer in
     subst written
-    (ap (step (fold step start (take i xs))) c.row-item.is
+    (ap (step (fold step start (take i xs))) (c.copied.ensures ∙ c.row-item.is)
     ∙ sym (fold_more step start xs i c.row-item.result (omega arith)))
     (c.in_ok-put_row.ensures _ c.rows.invariant)
 

@@ -6,7 +6,7 @@ use Rattle.cg_format.specs.Heading.{heading}
 use Rattle.cg_format.specs.Marks.{Mark, Plain}
 use Rattle.cg_format.specs.Part.{after_row}
 use Rattle.cg_format.specs.Sums.{sum_of_lines}
-use Rattle.cg_format.specs.Standing.{WriterState}
+use Rattle.cg_format.specs.Standing.{IsKnown, WriterState}
 use Rattle.cg_format.proofs.KnownLemmas.{functions_below, known_row}
 use Rattle.cg_format.proofs.PartLemmas.{whole_part}
 use Rattle.cg_format.proofs.part.write_named.Goals as goal
@@ -18,10 +18,11 @@ rows-init g c =
 
 pub put_row-requires : goal.put_row-requires
 put_row-requires g c =
-    known_row (g.N.Naming.map c.args.names.now) c.args.rows.now c.in_ok-sorted.sorted.items c.deref-row-items.result.now
-    c.rows.row-index
+    let m = g.N.Naming.map c.args.names.now in
+    subst (IsKnown m) (sym c.wide.ensures)
+    (known_row m c.args.rows.now c.in_ok-sorted.sorted.items c.deref-row-items.result.now c.rows.row-index
     c.row-item.result c.requires c.in_ok-sorted.ensures.permutation c.deref-row-items.ensures.value (omega arith)
-    c.row-item.is
+    c.row-item.is)
 
 pub rows-preserved : goal.rows-preserved
 rows-preserved g c =
@@ -32,7 +33,7 @@ rows-preserved g c =
     let i = c.rows.row-index in
     let written : List Mark → Type 0 = λ lines. WriterState m lines c.put_row.new.writer in
     subst written
-    (ap (step (fold step start (take i xs))) c.row-item.is
+    (ap (step (fold step start (take i xs))) (c.wide.ensures ∙ c.row-item.is)
     ∙ sym (fold_more step start xs i c.row-item.result (omega arith)))
     (c.in_ok-put_row.ensures _ c.rows.invariant)
 

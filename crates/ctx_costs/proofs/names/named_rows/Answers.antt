@@ -27,19 +27,19 @@ pub returns-clause-rows : goal.returns-clause-rows
 returns-clause-rows c =
     let cs = c.args.contexts.now.contexts in
     record {
-      lines = subst (λ (xs : List CtxLine). IsPermutation xs c.sort_by.new.self.items)
+      lines = subst (λ (xs : List CtxLine). IsPermutation xs c.sort_unstable_by.new.self.items)
           (c.in_ok-lines.ensures ∙ ap (map (named_line cs))
           (c.deref.ensures.value ∙ ap (λ (l : Listed). l.lines) c.rows.view_is))
-          c.sort_by.ensures.permutation;
-      arcs = subst (λ (xs : List CtxArc). IsPermutation xs c.sort_by-2.new.self.items)
+          c.sort_unstable_by.ensures.permutation;
+      arcs = subst (λ (xs : List CtxArc). IsPermutation xs c.sort_unstable_by-2.new.self.items)
           (c.in_ok-arcs.ensures ∙ ap (map (named_arc cs))
           (c.deref-2.ensures.value ∙ ap (λ (l : Listed). l.arcs) c.rows.view_is))
-          c.sort_by-2.ensures.permutation;
-      lines_rise = c.in_ok-sort_by.ensures.sorted (λ x y. is_lt (place_order (place_of x) (place_of y)))
+          c.sort_unstable_by-2.ensures.permutation;
+      lines_rise = c.sort_unstable_by.ensures.sorted (λ x y. is_lt (place_order (place_of x) (place_of y)))
           (ranks_by place_total place_of)
           (always_returns_same _ (λ a r. is_lt r ≡ is_lt (place_order (place_of a.0.now) (place_of a.1.0.now))) _
           (λ a r f' called. (search rules, search rules)));
-      arcs_rise = c.in_ok-sort_by-2.ensures.sorted (λ x y. is_lt (arc_order (arc_of x) (arc_of y)))
+      arcs_rise = c.sort_unstable_by-2.ensures.sorted (λ x y. is_lt (arc_order (arc_of x) (arc_of y)))
           (ranks_by arc_total arc_of)
           (always_returns_same _ (λ a r. is_lt r ≡ is_lt (arc_order (arc_of a.0.now) (arc_of a.1.0.now))) _
           (λ a r f' called. (search rules, search rules)));

@@ -1,13 +1,17 @@
-use Rattle.std.proofs.Common.{List, [], ap, arith, refl, ◌++◌, ◌∙◌}
-use Rattle.std.proofs.lemmas.List.{append-nil}
+use Rattle.std.proofs.Common.{◌≡◌, List, [], ap, arith, length, refl, reverse, ◌∙◌}
+use Rattle.std.proofs.lemmas.Bool.Decides.{nat_tests}
+use Rattle.std.proofs.lemmas.List.{nil_from_length}
 use Rattle.arc_costs.specs.Arcs.{arc_sum, call_sum}
 use Rattle.arc_costs.specs.Lines.{line_sum}
-use Rattle.arc_costs.specs.Rows.{LineRow}
+use Rattle.arc_costs.specs.Rows.{ArcRow}
+use Rattle.recorder.specs.Notes.{open_sum, rows_of_tellings}
 use Rattle.recorder.specs.inner.TellerLaws.{arc_sum-append, call_sum-append}
+use Rattle.shadow_stack.specs.Frames.{closings}
+use Rattle.shadow_stack.specs.declared.frame.Frame.{Frame}
 use Rattle.ctx_costs.proofs.Others.{closings_calls, closings_costs}
 use Rattle.ctx_costs.specs.inner.Tracks.{track_of}
 use Rattle.ctx_rows.specs.Tracks.{account_of}
-use Rattle.ctx_costs.proofs.OpenLemmas.{cut_of, open_items, starts_items}
+use Rattle.ctx_costs.proofs.OpenLemmas.{cut_of, open_items, own_sums, starts_items}
 use Rattle.ctx_costs.proofs.track.Track.rows.Goals as goal
 
 pub merge-requires-clause-line_costs : goal.merge-requires-clause-line_costs
@@ -16,15 +20,14 @@ merge-requires-clause-line_costs g c event place =
     omega (
       arith,
       ap (line_sum event place) c.new-all.ensures.lines,
-      c.in_ok-counted.ensures.lines_stand b.rows.lines (λ k p. refl) event place,
+      c.in_ok-sorted.ensures.lines_stand b.rows.lines (λ k p. refl) event place,
       c.requires.lines event place,
     )
 
 pub merge-requires-clause-arc_costs : goal.merge-requires-clause-arc_costs
 merge-requires-clause-arc_costs g c event arc =
     let b = c.args.self.now in
-    let counted = c.in_ok-counted.ensures.arcs_stand b.rows.arcs
-    (record { calls = λ key. refl; costs = λ kind key. refl }) in
+    let counted = c.in_ok-sorted.ensures.arcs_stand b.rows.arcs (own_sums b.rows.arcs) in
     omega (
       arith,
       ap (arc_sum event arc) c.new-all.ensures.arcs,
@@ -35,98 +38,74 @@ merge-requires-clause-arc_costs g c event arc =
 pub merge-requires-clause-calls : goal.merge-requires-clause-calls
 merge-requires-clause-calls g c arc =
     let b = c.args.self.now in
-    let counted = c.in_ok-counted.ensures.arcs_stand b.rows.arcs
-    (record { calls = λ key. refl; costs = λ kind key. refl }) in
+    let counted = c.in_ok-sorted.ensures.arcs_stand b.rows.arcs (own_sums b.rows.arcs) in
     omega (arith, ap (call_sum arc) c.new-all.ensures.arcs, counted.calls arc, c.requires.calls arc)
 
-pub open_rows-requires : goal.open_rows-requires
-open_rows-requires g c =
-    record { starts = starts_items c.args.self.now.total c.args.self.now.frames.items c.requires.starts }
+pub add_open-requires-clause-starts : goal.add_open-requires-clause-starts
+add_open-requires-clause-starts g c =
+    starts_items c.args.self.now.total c.args.self.now.frames.items c.requires.starts
 
-pub merge-requires-2-clause-line_costs : goal.merge-requires-2-clause-line_costs
-merge-requires-2-clause-line_costs g c event place =
+pub add_open-requires-clause-fits : goal.add_open-requires-clause-fits
+add_open-requires-clause-fits g c kind arc =
     let b = c.args.self.now in
-    omega (
-      arith,
-      c.in_ok-merge.ensures.lines_stand [] (λ k p. ap (line_sum k p) c.new-all.ensures.lines) event place,
-      c.in_ok-counted.ensures.lines_stand b.rows.lines (λ k p. refl) event place,
-      ap (line_sum event place) c.in_ok-open.ensures.lines,
-      c.requires.lines event place,
-    )
-
-pub merge-requires-2-clause-arc_costs : goal.merge-requires-2-clause-arc_costs
-merge-requires-2-clause-arc_costs g c event arc =
-    let b = c.args.self.now in
-    let counted = c.in_ok-counted.ensures.arcs_stand b.rows.arcs
-    (record { calls = λ key. refl; costs = λ kind key. refl }) in
+    let counted = c.in_ok-sorted.ensures.arcs_stand b.rows.arcs (own_sums b.rows.arcs) in
     let merged = c.in_ok-merge.ensures.arcs_stand [] (record {
       calls = λ key. ap (call_sum key) c.new-all.ensures.arcs;
-      costs = λ kind key. ap (arc_sum kind key) c.new-all.ensures.arcs;
+      costs = λ k key. ap (arc_sum k key) c.new-all.ensures.arcs;
     }) in
     omega (
       arith,
-      merged.costs event arc,
-      counted.costs event arc,
-      ap (arc_sum event arc) c.in_ok-open.ensures.arcs,
-      closings_costs event b.total arc b.frames.items (starts_items b.total b.frames.items c.requires.starts),
-      open_items event b.total arc b.frames.items,
-      c.requires.arcs event arc,
-    )
-
-pub merge-requires-2-clause-calls : goal.merge-requires-2-clause-calls
-merge-requires-2-clause-calls g c arc =
-    let b = c.args.self.now in
-    let counted = c.in_ok-counted.ensures.arcs_stand b.rows.arcs
-    (record { calls = λ key. refl; costs = λ kind key. refl }) in
-    let merged = c.in_ok-merge.ensures.arcs_stand [] (record {
-      calls = λ key. ap (call_sum key) c.new-all.ensures.arcs;
-      costs = λ kind key. ap (arc_sum kind key) c.new-all.ensures.arcs;
-    }) in
-    omega (
-      arith,
-      merged.calls arc,
-      counted.calls arc,
-      ap (call_sum arc) c.in_ok-open.ensures.arcs,
-      closings_calls b.total arc b.frames.items,
-      c.requires.calls arc,
+      merged.costs kind arc,
+      counted.costs kind arc,
+      open_items kind b.total arc b.frames.items,
+      c.requires.arcs kind arc,
     )
 
 pub returns-clause-rows : goal.returns-clause-rows
 returns-clause-rows g c =
     let b = c.args.self.now in
-    let counted = c.in_ok-counted.ensures.arcs_stand b.rows.arcs
-    (record { calls = λ key. refl; costs = λ kind key. refl }) in
+    let items = b.frames.items in
+    let added : List ArcRow = rows_of_tellings (closings b.total items) in
+    let counted = c.in_ok-sorted.ensures.arcs_stand b.rows.arcs (own_sums b.rows.arcs) in
     let merged = c.in_ok-merge.ensures.arcs_stand [] (record {
       calls = λ key. ap (call_sum key) c.new-all.ensures.arcs;
       costs = λ kind key. ap (arc_sum kind key) c.new-all.ensures.arcs;
     }) in
-    let all = c.in_ok-merge-2.ensures.arcs_stand c.merge.new.self.arcs
-    (record { calls = λ key. refl; costs = λ kind key. refl }) in
-    cut_of c.sorted-2.result (account_of (track_of b)) c.merge-2.new.self.lines c.merge-2.new.self.arcs
+    let all = c.in_ok-add_open.ensures.stands c.merge.new.self.arcs (own_sums c.merge.new.self.arcs) in
+    cut_of c.sorted-3.result (account_of (track_of b)) c.add_open.new.rows.lines c.add_open.new.rows.arcs
     (λ kind place.
-    c.in_ok-merge-2.ensures.lines_stand c.merge.new.self.lines (λ k p. refl) kind place
-    ∙ ap (λ (rs : List LineRow). line_sum kind place (c.merge.new.self.lines ++ rs)) c.in_ok-open.ensures.lines
-    ∙ ap (line_sum kind place) (append-nil c.merge.new.self.lines)
+    ap (line_sum kind place) c.in_ok-add_open.ensures.lines
     ∙ c.in_ok-merge.ensures.lines_stand [] (λ k p. ap (line_sum k p) c.new-all.ensures.lines) kind place
-    ∙ c.in_ok-counted.ensures.lines_stand b.rows.lines (λ k p. refl) kind place)
+    ∙ c.in_ok-sorted.ensures.lines_stand b.rows.lines (λ k p. refl) kind place)
     (λ kind arc. omega (
       arith,
       all.costs kind arc,
-      arc_sum-append kind arc c.merge.new.self.arcs c.in_ok-open.open.arcs,
+      arc_sum-append kind arc c.merge.new.self.arcs added,
       merged.costs kind arc,
       counted.costs kind arc,
-      ap (arc_sum kind arc) c.in_ok-open.ensures.arcs,
-      closings_costs kind b.total arc b.frames.items (starts_items b.total b.frames.items c.requires.starts),
-      open_items kind b.total arc b.frames.items,
+      closings_costs kind b.total arc items (starts_items b.total items c.requires.starts),
+      open_items kind b.total arc items,
     ))
     (λ arc. omega (
       arith,
       all.calls arc,
-      call_sum-append arc c.merge.new.self.arcs c.in_ok-open.open.arcs,
+      call_sum-append arc c.merge.new.self.arcs added,
       merged.calls arc,
       counted.calls arc,
-      ap (call_sum arc) c.in_ok-open.ensures.arcs,
-      closings_calls b.total arc b.frames.items,
+      closings_calls b.total arc items,
     ))
-    c.sorted-2.ensures.lines c.sorted-2.ensures.arcs c.sorted-2.ensures.lines_rise c.sorted-2.ensures.arcs_rise
-    c.sorted-2.ensures.lines_stand c.sorted-2.ensures.arcs_stand
+    c.sorted-3.ensures.lines c.sorted-3.ensures.arcs c.sorted-3.ensures.lines_rise c.sorted-3.ensures.arcs_rise
+    c.sorted-3.ensures.lines_stand c.sorted-3.ensures.arcs_stand
+
+-- where no frame is open
+pub returns-then-is_empty-clause-rows : goal.returns-then-is_empty-clause-rows
+returns-then-is_empty-clause-rows g c =
+    let b = c.args.self.now in
+    let count : length b.frames.items ≡ 0 = grind (arith, nat_tests, c.is_empty.ensures, c.if-is_empty.true) in
+    let none = nil_from_length b.frames.items count in
+    cut_of c.sorted.result (account_of (track_of b)) b.rows.lines b.rows.arcs
+    (λ kind place. refl)
+    (λ kind arc. omega (arith, ap (λ (fs : List Frame). open_sum kind b.total arc (reverse fs)) none))
+    (λ arc. refl)
+    c.sorted.ensures.lines c.sorted.ensures.arcs c.sorted.ensures.lines_rise c.sorted.ensures.arcs_rise
+    c.sorted.ensures.lines_stand c.sorted.ensures.arcs_stand

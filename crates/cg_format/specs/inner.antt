@@ -1,0 +1,2 @@
+-- Words of private contracts. No public clause rests on them.
+pub mod Refs
