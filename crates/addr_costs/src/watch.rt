@@ -35,7 +35,7 @@ pub struct AddrCosts {
 #[derive(Drop)]
 struct Maps {
     places: SymMap,
-    told: SymMap,
+    by_address: SymMap,
 }
 
 impl Model for AddrCosts {
@@ -48,7 +48,7 @@ impl Model for AddrCosts {
 
     ghost view = { λ w. record { first_syms = option_map (λ o. o.places) w.first_syms; watched = w.costs } };
 
-    ghost invariant = { λ w. IfSome w.first_syms (λ o. o.told ≡ address_map o.places) };
+    ghost invariant = { λ w. IfSome w.first_syms (λ o. o.by_address ≡ address_map o.places) };
 }
 
 impl AddrCosts {
@@ -71,12 +71,12 @@ impl AddrCosts {
         ensures { IfOk result (λ rows. IfSome (thread_rows self.now thread) (λ listed.
             rows ≡ record { thread = thread; rows = listed })) }
     {
-        let Some(over) = &self.first_syms else {
+        let Some(maps) = &self.first_syms else {
             unreachable!()
         };
         let rows = self.costs.rows(thread)?;
         let rows = plain_rows(self.alloc, &rows)?;
-        located_rows(self.alloc, thread, &rows, &over.places)
+        located_rows(self.alloc, thread, &rows, &maps.places)
     }
 
     /// What `ready` does before there is a map. After a refusal all is as before.
@@ -88,9 +88,9 @@ impl AddrCosts {
         ensures err { OnErr result (self.new ≡ self.old) }
     {
         let places = syms.try_clone(self.alloc)?;
-        let told = syms.try_clone(self.alloc)?.by_address();
-        self.costs.ready(thread, pc, &told)?;
-        self.first_syms = Some(Maps { places, told });
+        let by_address = syms.try_clone(self.alloc)?.by_address();
+        self.costs.ready(thread, pc, &by_address)?;
+        self.first_syms = Some(Maps { places, by_address });
         Ok(())
     }
 }
@@ -112,7 +112,7 @@ impl Watch for AddrCosts {
 
     fn ready(&mut self, thread: ThreadNo, pc: u32, syms: &SymMap) -> Result<(), OutOfMemory> {
         match &self.first_syms {
-            Some(over) => self.costs.ready(thread, pc, &over.told),
+            Some(maps) => self.costs.ready(thread, pc, &maps.by_address),
             None => self.begin(thread, pc, syms),
         }
     }
@@ -126,7 +126,7 @@ impl Watch for AddrCosts {
         _syms: &SymMap,
     ) {
         match &self.first_syms {
-            Some(over) => self.costs.seen(event, cost, wait, woken, &over.told),
+            Some(maps) => self.costs.seen(event, cost, wait, woken, &maps.by_address),
             None => unreachable!(),
         }
     }

@@ -23,4 +23,4 @@ pub record IsFront (done : List Named) (next : Option (List ℕ)) (files : List 
 pub record RefusalLeaves (files : List Named) (next : Option (List ℕ)) (old new : Option Files) : Type 0 where
   pub done : List Named
   pub front : IsFront done next files
-  pub left : Holds done next old new
+  pub holds : Holds done next old new

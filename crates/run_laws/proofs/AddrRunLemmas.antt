@@ -446,7 +446,7 @@ module _ (guest : Program) where
   answers old answer new a = record {
     output = a.output;
     runs = runs old answer a.output new a.runs;
-    left = a.left;
+    leaves = a.leaves;
     log = a.log;
     does = does answer a.log a.does;
     tells = a.tells;
