@@ -20,6 +20,7 @@ use Rattle.arc_costs.specs.Rows.{ArcRow, LineRow}
 use Rattle.report_laws.proofs.Others.{in-map, is_group, arcs_within, all_of, of_all, each_at, IsChain, count-cons}
 use Rattle.report_laws.proofs.Others.{number_of, on_arc, sum_by-each, sum_by-filter, sum_by-flat_map, sum_by-map}
 use Rattle.report_laws.proofs.Others.{sum_by-same, run_files, all_joined_unnamed, are_parts, all_append}
+use Rattle.report_laws.proofs.Others.{chains, cost_of, each_from, have_stacks, tops}
 use Rattle.call_graph.specs.Groups.{Grouping, is_member}
 use Rattle.call_graph.specs.Reach.{IsGroup, Steps}
 use Rattle.cg_format.specs.declared.trigger.Trigger.{Trigger}
@@ -40,16 +41,12 @@ use Rattle.once_each.specs.Parts.{ThreadRows}
 use Rattle.once_each.specs.Profiles.{Numbering, call_row, self_row}
 use Rattle.once_each.specs.Texts.{Naming, numbers_in}
 use Rattle.once_each.specs.Written.{file_of, segment_parts, segments_of, thread_part}
-use Rattle.once_each.proofs.MemberLemmas.{each_from}
 use Rattle.once_each.proofs.PartLemmas as parts
-use Rattle.once_each.proofs.PartLemmas.{cost_of}
-use Rattle.once_each.proofs.SeenLemmas.{chains}
 use Rattle.reads_back.specs.Joined.{AreOfOneRun, WrittenPart, rows_of_all, texts_of}
 use Rattle.reads_back.specs.Rows.{AreWritable, naming}
 use Rattle.run_laws.specs.OwnParts.{files_of_run}
 use Rattle.run_laws.specs.Profiles.{number_in}
 use Rattle.run_laws.specs.Runs.{events_with_costs, part_of, parts_written, segment_written}
-use Rattle.run_laws.proofs.EventLemmas.{have_stacks, tops}
 use Rattle.run_laws.proofs.PieceLemmas as piece_of_run
 use Rattle.report_laws.specs.Chosen.{IsProfileOfParts, events_chosen, file_written, parts_chosen}
 use Rattle.report_laws.proofs.AddrOwnPartLemmas.{Segment, each_flat, flat, whole_run}
@@ -129,7 +126,7 @@ length-take-le zero xs = omega arith
 length-take-le (suc n) [] = omega arith
 length-take-le (suc n) (x ∷ xs) = let rest = length-take-le n xs in omega (arith, rest)
 
-shown : (branches : Bool) (names : List (List ℕ)) (cost : List ℕ) (kind : ℕ)
+pub shown : (branches : Bool) (names : List (List ℕ)) (cost : List ℕ) (kind : ℕ)
     → kind < length (events_shown branches names) → get_or (events_shown branches cost) kind 0 ≡ get_or cost kind 0
 shown true names cost kind within = refl
 shown false names cost kind within =
@@ -277,7 +274,7 @@ module _ (guest : Program) (can : CanRun guest) (past : List RunStep) (makes : M
         (each_flat P (λ thread. kept number thread s.0) (λ thread. of_thread number thread s.0 piece) (threads s.0))
         (of_segments (earlier ++ s.0) (number + 1) ss (append_assoc earlier s.0 after ∙ is))
 
-    of_chosen : AllByRecursion P events
+    pub of_chosen : AllByRecursion P events
     of_chosen = of_segments [] 1 segments together
 
   abbrev Step' : ℕ → ℕ → Type 0

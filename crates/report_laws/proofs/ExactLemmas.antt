@@ -55,7 +55,7 @@ module _ (guest : Program) (can : CanRun guest) (old : Outside) (run : RunEnd) (
   makes = record { last = ended.is.last; run = ended.is.run }
 
   left : Leaves old (whole_output (plain_parts guest) ended.trace ended.stop) new
-  left = subst (λ (o : Output). Leaves old o new) ended.output answers.left
+  left = subst (λ (o : Output). Leaves old o new) ended.output answers.leaves
 
   holds : new.files ≡ Some (with_files put contents)
   holds = left.files ∙ ap (option_map (with_files put)) told

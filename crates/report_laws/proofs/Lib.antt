@@ -21,3 +21,7 @@ pub mod RenumberLemmas
 pub mod RunReportLemmas
 pub mod NumberLemmas
 pub mod ChosenLemmas
+pub mod JoinOrderLemmas
+pub mod AnyOrderLemmas
+pub mod CtxSumLemmas
+pub mod ContextLemmas

@@ -4,15 +4,15 @@ use Rattle.std.proofs.Common.{◌≡◌, ℕ, zero, suc, ◌+◌, ◌*◌, ◌==
 use Rattle.std.proofs.Common.{get_or, refl, sym, ap, subst, ◌∙◌, arith, if◌then◌else◌, sum_by, Contains, inl, inr}
 use Rattle.std.specs.List.{list_any}
 use Rattle.std.proofs.lemmas.Bool.{and_from, and_parts, eq-eqb, eqb-true}
-use Rattle.sym_map.proofs.Members.{Contains-map}
 use Rattle.call_graph.specs.Reach.{IsGroup, Steps, one}
 use Rattle.call_graph.specs.declared.arc.CallArc.{CallArc}
 use Rattle.run_laws.proofs.Others.{leads_after, leads_from_same, same_back, same_from_leads}
 use Rattle.cg_read.specs.Profiles.{Contents}
 use Rattle.cg_read.specs.declared.rows.CallRow.{CallRow}
 use Rattle.cycles.specs.Costs.{arc_of, call_arcs, inclusive_cost, self_cost}
-use Rattle.once_each.proofs.MemberLemmas.{each_from}
-use Rattle.report_laws.proofs.Others.{le-sum, sum-some, Below, IsClosed, number_of, sum_by-each, sum_by-plus}
+use Rattle.report_laws.proofs.GroupLemmas.{Contains-map}
+use Rattle.report_laws.proofs.Others.{each_from, le-sum, sum-some, Below, IsClosed, number_of, sum_by-each}
+use Rattle.report_laws.proofs.Others.{sum_by-plus}
 
 -- one of them passes
 abbrev pub any_in : (ℕ → Bool) → ℕ → List ℕ → Bool

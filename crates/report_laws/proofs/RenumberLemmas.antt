@@ -17,7 +17,7 @@ use Rattle.call_graph.specs.Groups.{Grouping, is_member}
 use Rattle.call_graph.specs.declared.arc.CallArc.{CallArc}
 use Rattle.call_graph.specs.Reach.{Reach, SameGroup, Steps, more, one}
 use Rattle.cg_read.specs.Profiles.{Contents, FitsCall, FitsSelf, IsProfile, NamedCall, NamedSelf, SaysTheSame, file_at}
-use Rattle.cg_read.specs.Profiles.{function_at}
+use Rattle.cg_read.specs.Profiles.{function_at, has_function, has_text}
 use Rattle.cg_read.specs.declared.rows.FuncKey.{FuncKey}
 use Rattle.cg_read.specs.Profiles.{named_call, named_self, same_function, unknown, unknown_function}
 use Rattle.cg_read.specs.Totals.{total}
@@ -82,25 +82,34 @@ flipped p q says = record {
   files = λ t. sym (says.files t);
 }
 
-module _ (p q : Contents) (says : SaysTheSame p q) where
-  func_there : (f : ℕ) → f < length p.functions
+module _ (p q : Contents) where
+  -- a function that both profiles have has its text under its new number
+  pub func_found : ((f : FuncKey) → has_function p.functions f ≡ has_function q.functions f) → (f : ℕ)
+      → f < length p.functions
       → (func_in p q f < length q.functions) × (function_at q.functions (func_in p q f) ≡ function_at p.functions f)
-  func_there f lt =
+  func_found same f lt =
       let key = function_at p.functions f in
-      let has = sym (says.functions key)
+      let has = sym (same key)
       ∙ list_any_at (same_function key) p.functions f unknown_function lt ((functions_decide key key).1 refl) in
       let there = any_there (same_function key) q.functions has in
       (there, sym (functions_eq key _ (passes_at_first (same_function key) q.functions unknown_function there)))
 
-  file_there : (f : ℕ) → f < length p.files → file_at q.files (file_in p q f) ≡ file_at p.files f
-  file_there f lt =
+  pub file_found : ((t : List ℕ) → has_text p.files t ≡ has_text q.files t) → (f : ℕ) → f < length p.files
+      → (file_in p q f < length q.files) × (file_at q.files (file_in p q f) ≡ file_at p.files f)
+  file_found same f lt =
       let text = file_at p.files f in
-      let has = sym (says.files text)
-      ∙ list_any_at (bytes_eq text) p.files f unknown lt (bytes_itself text) in
-      sym (texts_are text _ (passes_at_first (bytes_eq text) q.files unknown (any_there (bytes_eq text) q.files has)))
-    where
-      bytes_itself : (t : List ℕ) → bytes_eq t t ≡ true
-      bytes_itself t = (bytes_eq-Decides t t).1 refl
+      let has = sym (same text)
+      ∙ list_any_at (bytes_eq text) p.files f unknown lt ((bytes_eq-Decides text text).1 refl) in
+      let there = any_there (bytes_eq text) q.files has in
+      (there, sym (texts_are text _ (passes_at_first (bytes_eq text) q.files unknown there)))
+
+module _ (p q : Contents) (says : SaysTheSame p q) where
+  func_there : (f : ℕ) → f < length p.functions
+      → (func_in p q f < length q.functions) × (function_at q.functions (func_in p q f) ≡ function_at p.functions f)
+  func_there = func_found p q says.functions
+
+  file_there : (f : ℕ) → f < length p.files → file_at q.files (file_in p q f) ≡ file_at p.files f
+  file_there f lt = (file_found p q says.files f lt).1
 
   func_back : IsProfile p → (f : ℕ) → f < length p.functions → func_in q p (func_in p q f) ≡ f
   func_back profile f lt =

@@ -3,6 +3,7 @@ use Rattle.std.proofs.Common.{◌≡◌, ℕ, suc, ◌<◌, ◌==◌, Bool, true
 use Rattle.std.proofs.Common.{Option, None, Some}
 use Rattle.std.specs.List.{AllByRecursion, list_any}
 use Rattle.std.proofs.lemmas.Bool.Decides.{nat_tests}
+use Rattle.std.proofs.lemmas.List.Elements.{recursion_from_All}
 use Rattle.event_costs.specs.Keys.{ArcKey, Place}
 use Rattle.arc_costs.specs.Arcs.{arc_of, is_some_arc}
 use Rattle.arc_costs.specs.Contents.{Listed}
@@ -10,9 +11,7 @@ use Rattle.arc_costs.specs.Lines.{is_some_line, place_of}
 use Rattle.event_costs.specs.Order.{same_arc, same_place}
 use Rattle.arc_costs.specs.Totals.{is_some_cost}
 use Rattle.arc_costs.specs.Rows.{ArcRow, LineRow}
-use Rattle.cg_read.proofs.DraftLemmas.{each_weaker}
-use Rattle.cg_read.proofs.JoinLemmas.{each_from}
-use Rattle.report_laws.proofs.Others.{sum_where, itself_arc, itself_place, one_arc, one_place}
+use Rattle.report_laws.proofs.Others.{each_weaker, sum_where, itself_arc, itself_place, one_arc, one_place}
 use Rattle.report_laws.specs.Sums.{AreCounted, HaveEqualSums}
 use Rattle.report_laws.proofs.KeyLemmas.{IsSome, any_same, where_same}
 
@@ -54,12 +53,12 @@ some_arc row is = by (row.calls == 0) refl is
 some_lines : (rows : Listed) → AreCounted rows → AllByRecursion IsSomeLine rows.lines
 some_lines rows are =
     each_weaker (λ (row : LineRow). is_some_line row ≡ true) IsSomeLine some_line rows.lines
-    (each_from (λ (row : LineRow). is_some_line row ≡ true) rows.lines are.lines)
+    (recursion_from_All (λ (row : LineRow). is_some_line row ≡ true) rows.lines are.lines)
 
 some_arcs : (rows : Listed) → AreCounted rows → AllByRecursion IsSomeArc rows.arcs
 some_arcs rows are =
     each_weaker (λ (row : ArcRow). is_some_arc row ≡ true) IsSomeArc some_arc rows.arcs
-    (each_from (λ (row : ArcRow). is_some_arc row ≡ true) rows.arcs are.arcs)
+    (recursion_from_All (λ (row : ArcRow). is_some_arc row ≡ true) rows.arcs are.arcs)
 
 module _ (rows others : Listed) (equal : HaveEqualSums rows others) where
   equal_arcs : (i : Option ℕ) (arc : ArcKey)

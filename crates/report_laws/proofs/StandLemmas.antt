@@ -8,7 +8,7 @@ use Rattle.std.specs.Str.{bytes_eq}
 use Rattle.std.proofs.lemmas.Bool.{lt-ltb, ltb-true, and_from, and_parts}
 use Rattle.std.proofs.lemmas.Bool.Decides.{nat_tests}
 use Rattle.std.proofs.lemmas.List.{get_or-take, get_or_past}
-use Rattle.std.proofs.lemmas.List.Elements.{All-from_recursion}
+use Rattle.std.proofs.lemmas.List.Elements.{All-from_recursion, recursion_from_All}
 use Rattle.std.proofs.lemmas.List.Folds.{list_any-append}
 use Rattle.std.proofs.lemmas.List.Sums.{position_or_len_is}
 use Rattle.std.proofs.lemmas.Slice.Eq.{bytes_eq-Decides}
@@ -24,12 +24,11 @@ use Rattle.cg_read.specs.Profiles.{named_call_rows, named_self_rows, same_functi
 use Rattle.cg_read.specs.declared.rows.CallRow.{CallRow}
 use Rattle.cg_read.specs.declared.rows.FuncKey.{FuncKey}
 use Rattle.cg_read.specs.declared.rows.SelfRow.{SelfRow}
-pub use Rattle.cg_read.proofs.DraftLemmas.{each_weaker, functions_eq, texts_are}
-use Rattle.cg_read.proofs.JoinLemmas.{each_from}
 pub use Rattle.cg_read.proofs.MergeLemmas.{functions_decide}
 pub use Rattle.annotate.proofs.CallLemmas.{any_of_map}
 use Rattle.once_each.specs.Profiles.{Numbering, call_row, self_row}
 use Rattle.once_each.specs.Texts.{Naming, named_arc, named_line, numbers_in}
+pub use Rattle.report_laws.proofs.Others.{each_weaker, functions_eq, texts_are}
 use Rattle.report_laws.proofs.Others.{sum_by-map, sum_by-none, sum_by-same, shown_length}
 use Rattle.reads_back.specs.Rows.{IsOfRows, arcs_read, lines_read, naming}
 use Rattle.report_laws.specs.Sums.{HaveEqualSums, StandsFor}
@@ -62,7 +61,8 @@ itself_function : (f : FuncKey) → same_function f f ≡ true
 itself_function f = (functions_decide f f).1 refl
 
 module _ (q : Contents) (profile : IsProfile q) where
-  number_self : NamedSelf → SelfRow
+  -- a row by the numbers of its texts
+  abbrev pub number_self : NamedSelf → SelfRow
   number_self row = record {
     func = position_or_len (same_function row.function) q.functions;
     file = position_or_len (bytes_eq row.file) q.files;
@@ -70,7 +70,7 @@ module _ (q : Contents) (profile : IsProfile q) where
     cost = row.cost;
   }
 
-  number_call : NamedCall → CallRow
+  abbrev pub number_call : NamedCall → CallRow
   number_call row = record {
     caller = position_or_len (same_function row.caller) q.functions;
     file = position_or_len (bytes_eq row.file) q.files;
@@ -90,10 +90,9 @@ module _ (q : Contents) (profile : IsProfile q) where
   file_again f within =
       place_again bytes_eq texts_are itself_text q.files f unknown profile.files_differ within
 
-  selfs_again : (rows : List SelfRow)
+  pub selfs_again : (rows : List SelfRow)
       → AllByRecursion (FitsSelf (length q.events) (length q.functions) (length q.files)) rows
       → rows ≡ map number_self (map (named_self q.functions q.files) rows)
-  unfolding number_self
   selfs_again [] fit = refl
   selfs_again (row ∷ rows) fit = λ i. record {
     func = func_again row.func fit.0.function i;
@@ -102,10 +101,9 @@ module _ (q : Contents) (profile : IsProfile q) where
     cost = row.cost;
   } ∷ selfs_again rows fit.1 i
 
-  calls_again : (rows : List CallRow)
+  pub calls_again : (rows : List CallRow)
       → AllByRecursion (FitsCall (length q.events) (length q.functions) (length q.files)) rows
       → rows ≡ map number_call (map (named_call q.functions q.files) rows)
-  unfolding number_call
   calls_again [] fit = refl
   calls_again (row ∷ rows) fit = λ i. record {
     caller = func_again row.caller fit.0.caller i;
@@ -118,14 +116,12 @@ module _ (q : Contents) (profile : IsProfile q) where
 
   selfs_numbered : (names : Naming) (lines : List LineRow)
       → map number_self (map (named_line names) lines) ≡ map (self_row (numbers_in q names)) lines
-  unfolding number_self
   selfs_numbered names [] = refl
   selfs_numbered names (row ∷ lines) =
       ap (λ rows. self_row (numbers_in q names) row ∷ rows) (selfs_numbered names lines)
 
   calls_numbered : (names : Naming) (arcs : List ArcRow)
       → map number_call (map (named_arc names) arcs) ≡ map (call_row (numbers_in q names)) arcs
-  unfolding number_call
   calls_numbered names [] = refl
   calls_numbered names (row ∷ arcs) =
       ap (λ rows. call_row (numbers_in q names) row ∷ rows) (calls_numbered names arcs)
@@ -135,13 +131,13 @@ module _ (q : Contents) (profile : IsProfile q) (names : Naming) where
   pub selfs_are : (lines : List LineRow) → named_self_rows q ≡ map (named_line names) lines
       → q.self_rows ≡ map (self_row (numbers_in q names)) lines
   selfs_are lines is =
-      selfs_again q profile q.self_rows (each_from _ q.self_rows profile.self_rows_fit)
+      selfs_again q profile q.self_rows (recursion_from_All _ q.self_rows profile.self_rows_fit)
       ∙ ap (map (number_self q profile)) is ∙ selfs_numbered q profile names lines
 
   pub calls_are : (arcs : List ArcRow) → named_call_rows q ≡ map (named_arc names) arcs
       → q.call_rows ≡ map (call_row (numbers_in q names)) arcs
   calls_are arcs is =
-      calls_again q profile q.call_rows (each_from _ q.call_rows profile.call_rows_fit)
+      calls_again q profile q.call_rows (recursion_from_All _ q.call_rows profile.call_rows_fit)
       ∙ ap (map (number_call q profile)) is ∙ calls_numbered q profile names arcs
 
 -- ---- what is shown of costs
@@ -434,7 +430,7 @@ module _ (head : PartHead) (command : Option (List ℕ)) (rows others : Listed) 
       (file_has row.place.file.0 (record { within = fit.file; text = ap (λ (x : NamedSelf). x.file) same })))
       others.lines
       (unmapped Fits (self_row n) others.lines
-      (subst (AllByRecursion Fits) others_selfs (each_from Fits q.self_rows profile.self_rows_fit)))
+      (subst (AllByRecursion Fits) others_selfs (recursion_from_All Fits q.self_rows profile.self_rows_fit)))
       (each_alike (λ row. named_self q.functions q.files (self_row n row)) (named_line names) others.lines
       (sym (map_twice (named_self q.functions q.files) (self_row n) others.lines)
       ∙ ap (map (named_self q.functions q.files)) (sym others_selfs) ∙ of.self_rows))
@@ -451,7 +447,7 @@ module _ (head : PartHead) (command : Option (List ℕ)) (rows others : Listed) 
       (func_has row.arc.callee.0 (record { within = fit.callee; text = ap (λ (x : NamedCall). x.callee) same }))))
       others.arcs
       (unmapped FitsC (call_row n) others.arcs
-      (subst (AllByRecursion FitsC) others_calls (each_from FitsC q.call_rows profile.call_rows_fit)))
+      (subst (AllByRecursion FitsC) others_calls (recursion_from_All FitsC q.call_rows profile.call_rows_fit)))
       (each_alike (λ row. named_call q.functions q.files (call_row n row)) (named_arc names) others.arcs
       (sym (map_twice (named_call q.functions q.files) (call_row n) others.arcs)
       ∙ ap (map (named_call q.functions q.files)) (sym others_calls) ∙ of.call_rows))
@@ -530,7 +526,7 @@ module _ (head : PartHead) (command : Option (List ℕ)) (rows others : Listed) 
         function = there.func.within;
         file = there.file.within;
         cost = wide row.cost whole;
-      }) rows.lines own_placed (each_from (λ (row : LineRow). IsWhole row.cost) rows.lines equal.counted.whole.lines))
+      }) rows.lines own_placed (recursion_from_All (λ (row : LineRow). IsWhole row.cost) rows.lines equal.counted.whole.lines))
 
   calls_fit : AllByRecursion FitsC calls
   calls_fit =
@@ -542,7 +538,7 @@ module _ (head : PartHead) (command : Option (List ℕ)) (rows others : Listed) 
         callee = there.callee.within;
         file = there.file.within;
         cost = wide row.cost whole;
-      }) rows.arcs own_arced (each_from (λ (row : ArcRow). IsWhole row.cost) rows.arcs equal.counted.whole.arcs))
+      }) rows.arcs own_arced (recursion_from_All (λ (row : ArcRow). IsWhole row.cost) rows.arcs equal.counted.whole.arcs))
 
   is_profile : IsProfile p
   is_profile = record {

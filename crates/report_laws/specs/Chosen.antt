@@ -27,11 +27,15 @@ abbrev pub parts_chosen : Program → (ℕ → ℕ → Bool) → List RunStep �
 parts_chosen guest chosen trace =
     filter (λ part. chosen part.head.part part.head.thread.0) (parts_written guest trace)
 
--- the events of the chosen threads in the chosen segments, which count from 1
+-- what there is of the events of each chosen thread in each chosen segment; segments count from 1
+abbrev pub each_chosen : {X : Type 0} → (List EventOnStack → List X) → Program → (ℕ → ℕ → Bool) → List RunStep → List X
+each_chosen what guest chosen trace =
+    flat_map (λ s. flat_map (λ thread. if chosen s.0 thread then what (events_on_stack_of thread s.1.0) else [])
+    (threads s.1.0)) (enumerate_from 1 (segments_of guest.syms guest.options.dump_points (steps_of trace)))
+
+-- these events
 abbrev pub events_chosen : Program → (ℕ → ℕ → Bool) → List RunStep → List EventOnStack
-events_chosen guest chosen trace =
-    flat_map (λ s. flat_map (λ thread. if chosen s.0 thread then events_on_stack_of thread s.1.0 else []) (threads s.1.0))
-    (enumerate_from 1 (segments_of guest.syms guest.options.dump_points (steps_of trace)))
+events_chosen guest chosen trace = each_chosen (λ xs. xs) guest chosen trace
 
 -- a profile of the rows of the chosen parts
 pub record IsProfileOfParts (guest : Program) (chosen : ℕ → ℕ → Bool) (trace : List RunStep) (p : Contents) : Type 0 where

@@ -3,3 +3,4 @@ pub mod Exact
 pub mod Sums
 pub mod Rows
 pub mod Chosen
+pub mod Contexts

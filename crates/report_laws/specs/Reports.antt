@@ -1,11 +1,12 @@
 -- The report on a run, in the run's own words.
-use Rattle.std.specs.Prelude.{◌≡◌, ◌≢◌, ◌↔◌, ◌<◌, ℕ, List, length}
+use Rattle.std.specs.Prelude.{◌≡◌, ◌≢◌, ◌↔◌, ◌<◌, ℕ, List, ◌++◌, length}
 use Rattle.call_graph.specs.Groups.{Grouping}
 use Rattle.call_graph.specs.Reach.{SameGroup, Steps}
 use Rattle.cg_read.specs.Profiles.{Contents}
 use Rattle.cycles.specs.Costs.{IsGroupsOf, group_at}
 use Rattle.cycles.specs.Limits.{pair_cost}
 use Rattle.part_dump.specs.Cuts.{DumpPoints}
+use Rattle.annotate.specs.Functions.{command_line}
 use Rattle.annotate.specs.Report.{IsReport, SourceTexts}
 use Rattle.report_rows.specs.declared.options.ReportOptions.{ReportOptions}
 use Rattle.profile_run.specs.Program.{Program}
@@ -47,3 +48,9 @@ pub record IsReportOfRun (guest : Program) (trace : List RunStep) (options : Rep
   pub once : CountOnce guest trace profile groups costs
   pub pairs_once : PairsCountOnce guest trace profile groups
   pub report : IsReport profile groups costs options texts text
+
+-- The texts of the reports on two profiles are the same behind their first lines, which show the commands.
+pub record DifferByCommand (p q : Contents) (text other : List ℕ) : Type 0 where
+  pub rest : List ℕ
+  pub text_is : text ≡ command_line p ++ rest
+  pub other_is : other ≡ command_line q ++ rest

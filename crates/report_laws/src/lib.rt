@@ -3,7 +3,9 @@
 //! contract what holds.
 #![tactic(auto)]
 
+mod any_order;
 mod chosen;
+mod contexts;
 mod exact;
 mod own_parts_by_address;
 mod parts_by_address;
@@ -11,7 +13,9 @@ mod reports;
 mod runs_by_address;
 mod sums;
 
+pub use any_order::files_in_any_order_have_one_report;
 pub use chosen::inclusive_costs_of_some_parts_count_each_event_once;
+pub use contexts::inclusive_costs_by_context_count_each_event_once;
 pub use exact::a_run_reported_from_its_own_parts_is_exact;
 pub use own_parts_by_address::own_parts_by_address_stand_for_the_rows_of_the_run;
 pub use parts_by_address::parts_by_address_read_as_their_rows;
