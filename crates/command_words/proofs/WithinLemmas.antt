@@ -14,13 +14,13 @@ use Rattle.sorted_words.specs.Sorting.{SortedCommand, Syntax, Text, is_among, so
 use Rattle.sorted_words.proofs.RowLemmas.{same_text}
 use Rattle.command_words.specs.Request.{Request, Usage, Uses, are_fine, read_request, request_of, command_named, demo, first}
 use Rattle.command_words.specs.Request.{has_its_values, is_fine, is_named, job, request, command_request, sized_demo}
-use Rattle.command_words.specs.Request.{Addresses, Nothing, Waits, Watching, by_callers, counts_one, first_small_number}
-use Rattle.command_words.specs.Request.{own_watching, says, sort_is_shown, view, watching}
+use Rattle.command_words.specs.Request.{Addresses, Waits, by_callers, counts_one, first_small_number}
+use Rattle.command_words.specs.Request.{says, sort_is_shown, view, watching}
 use Rattle.command_words.specs.Request.{Demo as Asked_Demo}
 use Rattle.command_words.specs.Table.{Command, AnyText, Number, Row, Run, RunAndReport, Report, Annotate, Demo, Sized}
 use Rattle.command_words.specs.Table.{commands, rows_of, syntax_of}
 use Rattle.command_words.specs.Values.{accepts, is_between, is_numeral, number, number_below, small_number, value_of}
-use Rattle.command_words.specs.Within.{AreFew, IsBetween, IsJob, IsOfReport, IsSortShown, IsView, IsWithin}
+use Rattle.command_words.specs.Within.{AreFew, IsBetween, IsJob, IsSortShown, IsView, IsWithin}
 
 -- ---- numbers
 
@@ -112,14 +112,14 @@ row_is_fine given (row ∷ rows) (suc k) d lt fine =
 abbrev any_row : Row
 any_row = record { name = []; takers = RunAndReport; kind = AnyText }
 
-job_within : (w : Watching) (given : Uses) (values : List Text)
+job_within : (given : Uses) (values : List Text)
     → list_all (accepts (Sized 1 (Some 200))) (given (codes "base")) ≡ true
     → list_all (accepts (Sized 1 None)) (given (codes "input")) ≡ true
     → list_all (accepts (Number 1 (10 ^ 12))) (given (codes "budget")) ≡ true
     → list_all (accepts (Number 1 1000000)) (given (codes "quantum")) ≡ true
     → list_all (accepts (Number 1 (10 ^ 12))) (given (codes "dump-every")) ≡ true
-    → AreFew w → is_named values ≡ true → IsJob (job w given values)
-job_within w given values base input budget quantum every callers named = record {
+    → is_named values ≡ true → IsJob (job given values)
+job_within given values base input budget quantum every named = record {
   base = text_within 1 200 (codes "callgrind.out") (given (codes "base")) base
       (record { least_of = lit≤ tt; most_of = lit≤ tt });
   input = text_if 1 (given (codes "input")) input;
@@ -128,7 +128,6 @@ job_within w given values base input budget quantum every callers named = record
   quantum = number_within 1 1000000 (2 ^ 32) 10000 (given (codes "quantum")) quantum
       (record { least_of = lit≤ tt; most_of = lit≤ tt }) (lit< tt);
   every = number_if 1 (10 ^ 12) (2 ^ 64) (given (codes "dump-every")) every (lit< tt);
-  callers = callers;
   program = ltb-true 0 (length values) named;
 }
 
@@ -149,13 +148,6 @@ callers_within given fine =
         callers_of (first_small_number (given (codes "separate-callers")))
         (number_if 1 16 (2 ^ 32) (given (codes "separate-callers")) fine (lit< tt))
 
-of_report : (given : Uses) → AreFew (own_watching given) × IsOfReport (own_watching given)
-of_report given = by (says (codes "yes") (given (codes "dump-instr")))
-  where
-    by : (b : Bool) → AreFew (cond b Addresses Nothing) × IsOfReport (cond b Addresses Nothing)
-    by true = (tt, tt)
-    by false = (tt, tt)
-
 view_within : (given : Uses) → list_all (accepts (Number 0 100)) (given (codes "threshold")) ≡ true
     → IsView (view given)
 view_within given threshold =
@@ -168,9 +160,9 @@ one_of events None is = tt
 one_of events (Some event) is =
     Contains-from_any {eq = λ a b. bytes_eq b a} (λ a b e. sym (same_text b a e)) event events is
 
-sort_within : (w : Watching) (given : Uses) (values : List Text) → sort_is_shown given ≡ true
-    → IsSortShown (job w given values) (view given)
-sort_within w given values is =
+sort_within : (given : Uses) (values : List Text) → sort_is_shown given ≡ true
+    → IsSortShown (job given values) (view given)
+sort_within given values is =
     one_of (events_shown (says (codes "yes") (given (codes "branch-sim"))) event_names)
     (first (given (codes "sort"))) is
 
@@ -190,24 +182,24 @@ demo_within (size ∷ other ∷ values) = tt
 requested_within : (c : Command) (given : Uses) (values : List Text) → are_fine c given ≡ true
     → has_its_values c given values ≡ true
     → IsWithin (command_request c given values)
-requested_within Run given values fine has =
-    job_within (watching given) given values (row_is_fine given (rows_of Run) 0 any_row (lit< tt) fine)
-    (row_is_fine given (rows_of Run) 1 any_row (lit< tt) fine)
-    (row_is_fine given (rows_of Run) 2 any_row (lit< tt) fine)
-    (row_is_fine given (rows_of Run) 3 any_row (lit< tt) fine)
-    (row_is_fine given (rows_of Run) 8 any_row (lit< tt) fine)
-    (callers_within given (row_is_fine given (rows_of Run) 13 any_row (lit< tt) fine))
-    (and_parts (is_named values) (counts_one given) has).0
+requested_within Run given values fine has = (
+  job_within given values (row_is_fine given (rows_of Run) 0 any_row (lit< tt) fine)
+      (row_is_fine given (rows_of Run) 1 any_row (lit< tt) fine)
+      (row_is_fine given (rows_of Run) 2 any_row (lit< tt) fine)
+      (row_is_fine given (rows_of Run) 3 any_row (lit< tt) fine)
+      (row_is_fine given (rows_of Run) 8 any_row (lit< tt) fine)
+      (and_parts (is_named values) (counts_one given) has).0,
+  callers_within given (row_is_fine given (rows_of Run) 13 any_row (lit< tt) fine),
+)
 requested_within Report given values fine has = (
-  job_within (own_watching given) given values (row_is_fine given (rows_of Report) 0 any_row (lit< tt) fine)
+  job_within given values (row_is_fine given (rows_of Report) 0 any_row (lit< tt) fine)
       (row_is_fine given (rows_of Report) 1 any_row (lit< tt) fine)
       (row_is_fine given (rows_of Report) 2 any_row (lit< tt) fine)
       (row_is_fine given (rows_of Report) 3 any_row (lit< tt) fine)
-      (row_is_fine given (rows_of Report) 8 any_row (lit< tt) fine) (of_report given).0
+      (row_is_fine given (rows_of Report) 8 any_row (lit< tt) fine)
       (and_parts (is_named values) (sort_is_shown given) has).0,
   view_within given (row_is_fine given (rows_of Report) 13 any_row (lit< tt) fine),
-  sort_within (own_watching given) given values (and_parts (is_named values) (sort_is_shown given) has).1,
-  (of_report given).1,
+  sort_within given values (and_parts (is_named values) (sort_is_shown given) has).1,
 )
 requested_within Annotate given values fine has =
     (ltb-true 0 (length values) has, view_within given (row_is_fine given (rows_of Annotate) 1 any_row (lit< tt) fine))

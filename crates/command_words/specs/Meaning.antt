@@ -3,7 +3,10 @@ use Rattle.std.specs.Prelude.{map, option_map, string_bytes}
 use Rattle.sorted_words.specs.SortedWords.{SortedWords, under}
 use Rattle.command_words.specs.Request.{Request, Job, Tree, Uses, View, Run, Report, Annotate, Demo, Usage, Off, Caller}
 use Rattle.command_words.specs.Request.{Calling, Both, Addresses, Contexts, Nothing, Waits, Watching}
+use Rattle.command_words.specs.Request.{AddressAndLine, Line, Positions}
 use Rattle.command_words.specs.declared.request.Job as code_job
+use Rattle.command_words.specs.declared.request.Positions as code_positions
+use Rattle.command_words.specs.declared.request.Positions.TheVariants as positions
 use Rattle.command_words.specs.declared.request.Request as code_request
 use Rattle.command_words.specs.declared.request.Request.TheVariants as code
 use Rattle.command_words.specs.declared.request.Tree as code_tree
@@ -22,6 +25,10 @@ watching_of watching.Waits = Waits
 watching_of (watching.Contexts callers) = Contexts callers
 watching_of watching.Addresses = Addresses
 
+abbrev pub positions_of : code_positions.Positions → Positions
+positions_of positions.Line = Line
+positions_of positions.AddressAndLine = AddressAndLine
+
 abbrev pub job_of : code_job.Job → Job
 job_of job = record {
   base = job.base.now;
@@ -36,7 +43,6 @@ job_of job = record {
   before = option_map (λ name. name.now) job.dumps.before;
   after = option_map (λ name. name.now) job.dumps.after;
   branches = job.branches;
-  watching = watching_of job.watching;
   args = map (λ word. string_bytes word) job.args.items;
 }
 
@@ -56,8 +62,8 @@ view_of view = record {
 
 -- a request of the code as what is asked
 abbrev pub meaning_of : code_request.Request → Request
-meaning_of (code.Run job) = Run (job_of job)
-meaning_of (code.Report job view) = Report (job_of job) (view_of view)
+meaning_of (code.Run job watching) = Run (job_of job) (watching_of watching)
+meaning_of (code.Report job positions view) = Report (job_of job) (positions_of positions) (view_of view)
 meaning_of (code.Annotate files view) = Annotate (map (λ file. file.now) files.items) (view_of view)
 meaning_of (code.Demo size) = Demo size
 meaning_of code.Usage = Usage

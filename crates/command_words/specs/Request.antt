@@ -24,6 +24,16 @@ pub data Watching : Type 0 where
   -- what each instruction costs, by its address
   Addresses : Watching
 
+-- what the positions of a run's parts are
+pub data Positions : Type 0 where
+  Line : Positions
+  AddressAndLine : Positions
+
+-- what a run counts that puts such parts
+abbrev pub watching_at : Positions → Watching
+watching_at Line = Nothing
+watching_at AddressAndLine = Addresses
+
 -- a program to be run, and how
 pub record Job : Type 0 where
   -- what the names of its files begin with
@@ -45,8 +55,6 @@ pub record Job : Type 0 where
   pub after : Option Text
   -- branches are counted
   pub branches : Bool
-  -- what else is counted
-  pub watching : Watching
   -- the program's name, and its arguments
   pub args : List Text
 
@@ -68,8 +76,10 @@ pub record View : Type 0 where
   pub auto : Bool
 
 pub data Request : Type 0 where
-  Run : Job → Request
-  Report : Job → View → Request
+  -- with what the run counts besides its parts
+  Run : Job → Watching → Request
+  -- on parts with these positions
+  Report : Job → Positions → View → Request
   -- the names of the files
   Annotate : List Text → View → Request
   Demo : ℕ → Request
@@ -116,13 +126,13 @@ watching given =
     else (if says (codes "yes") (given (codes "dump-instr")) then Addresses
     else by_callers (first_small_number (given (codes "separate-callers"))))
 
--- and `report` in its own parts
-abbrev pub own_watching : Uses → Watching
-own_watching given = if says (codes "yes") (given (codes "dump-instr")) then Addresses else Nothing
+-- the positions of the parts of `report`
+abbrev pub positions : Uses → Positions
+positions given = if says (codes "yes") (given (codes "dump-instr")) then AddressAndLine else Line
 
 -- each option's value, or its default
-abbrev pub job : Watching → Uses → List Text → Job
-job watching given values = record {
+abbrev pub job : Uses → List Text → Job
+job given values = record {
   base = unwrap_or (first (given (codes "base"))) (codes "callgrind.out");
   input = first (given (codes "input"));
   budget = unwrap_or (first_number (given (codes "budget"))) (10 ^ 9);
@@ -135,7 +145,6 @@ job watching given values = record {
   before = first (given (codes "dump-before"));
   after = first (given (codes "dump-after"));
   branches = says (codes "yes") (given (codes "branch-sim"));
-  watching = watching;
   args = values;
 }
 
@@ -198,8 +207,8 @@ demo (size ∷ []) = sized_demo (small_number size)
 demo _ = Usage
 
 abbrev pub command_request : Command → Uses → List Text → Request
-command_request table.Run given values = Run (job (watching given) given values)
-command_request table.Report given values = Report (job (own_watching given) given values) (view given)
+command_request table.Run given values = Run (job given values) (watching given)
+command_request table.Report given values = Report (job given values) (positions given) (view given)
 command_request table.Annotate given values = Annotate values (view given)
 command_request table.Demo given values = demo values
 

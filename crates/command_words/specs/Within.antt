@@ -1,5 +1,5 @@
 -- What holds of everything that is asked for.
-use Rattle.std.specs.Prelude.{◌≡◌, ℕ, ◌^◌, ◌≤◌, ◌<◌, Contains, IfSome, length}
+use Rattle.std.specs.Prelude.{ℕ, ◌^◌, ◌≤◌, ◌<◌, Contains, IfSome, length}
 use Rattle.event_costs.specs.Costs.{event_names, events_shown}
 use Rattle.command_words.specs.Request.{Addresses, Contexts, Nothing, Waits, Watching}
 use Rattle.command_words.specs.Request.{Request, Job, View, Run, Report, Annotate, Demo, Usage}
@@ -21,7 +21,6 @@ pub record IsJob (job : Job) : Type 0 where
   pub budget : IsBetween 1 (10 ^ 12) job.budget
   pub quantum : IsBetween 1 1000000 job.quantum
   pub every : IfSome job.every (λ steps. IsBetween 1 (10 ^ 12) steps)
-  pub callers : AreFew job.watching
   pub program : 0 < length job.args
 
 abbrev pub IsView : View → Type 0
@@ -31,16 +30,9 @@ IsView view = view.threshold ≤ 100
 abbrev pub IsSortShown : Job → View → Type 0
 IsSortShown job view = IfSome view.sort (λ event. Contains (events_shown job.branches event_names) event)
 
--- the parts of `report` may have addresses, and nothing else besides is counted there
-abbrev pub IsOfReport : Watching → Type 0
-IsOfReport Nothing = Unit {0}
-IsOfReport Addresses = Unit {0}
-IsOfReport Waits = ⊥
-IsOfReport (Contexts callers) = ⊥
-
 abbrev pub IsWithin : Request → Type 0
-IsWithin (Run job) = IsJob job
-IsWithin (Report job view) = IsJob job × IsView view × IsSortShown job view × IsOfReport job.watching
+IsWithin (Run job watching) = IsJob job × AreFew watching
+IsWithin (Report job positions view) = IsJob job × IsView view × IsSortShown job view
 IsWithin (Annotate files view) = (0 < length files) × IsView view
 IsWithin (Demo size) = IsBetween 1 100000 size
 IsWithin Usage = Unit {0}

@@ -3,15 +3,15 @@
 ghost use Rattle.std.specs.Prelude.{◌≡◌, [], IfOk, map, option_map, string_bytes};
 ghost use Rattle.command_words.specs.Request.{default_first, default_last, demo, first, first_number};
 ghost use Rattle.command_words.specs.Request.{first_shape, job, command_request, tree_of, view};
-ghost use Rattle.command_words.specs.Request.{Nothing, own_watching as own_watching_asked, watching as watching_asked};
+ghost use Rattle.command_words.specs.Request.{positions as positions_asked, watching as watching_asked};
 ghost use Rattle.command_words.specs.Request.{Tree as asked_tree};
-ghost use Rattle.command_words.specs.Meaning.{job_of, meaning_of, uses_of, view_of, watching_of};
+ghost use Rattle.command_words.specs.Meaning.{job_of, meaning_of, positions_of, uses_of, view_of, watching_of};
 ghost use Rattle.command_words.specs.Meaning.{tree_of as meaning_of_tree};
 ghost use Rattle.command_words.specs.Rows.{command_of};
 ghost use Rattle.std.specs.Prelude.{codes, unwrap_or};
 
 use crate::option_values::{first, first_geometry, first_number, first_small_number, says};
-use crate::request::{Dumps, Geometries, Job, Request, Tree, View, Watching};
+use crate::request::{Dumps, Geometries, Job, Positions, Request, Tree, View, Watching};
 use crate::table::Command;
 use crate::value::small_number;
 use cache_lru::Geometry;
@@ -117,24 +117,20 @@ fn watching(given: &SortedWords<'_>) -> Watching
     }
 }
 
-/// What `report` is asked to count in its own parts.
-fn own_watching(given: &SortedWords<'_>) -> Watching
-    ensures { watching_of result ≡ own_watching_asked (uses_of given.now) }
+/// The positions of the parts of `report`.
+fn positions(given: &SortedWords<'_>) -> Positions
+    ensures { positions_of result ≡ positions_asked (uses_of given.now) }
 {
     if says(given, "dump-instr", "yes") {
-        Watching::Addresses
+        Positions::AddressAndLine
     } else {
-        Watching::Nothing
+        Positions::Line
     }
 }
 
 /// What `run` is asked to do, and `report` before it reports.
-fn job<'a>(
-    alloc: Global,
-    watching: Watching,
-    given: &SortedWords<'a>,
-) -> Result<Job<'a>, AllocError>
-    ensures { IfOk result (λ r. job_of r ≡ job (watching_of watching) (uses_of given.now) given.now.values) }
+fn job<'a>(alloc: Global, given: &SortedWords<'a>) -> Result<Job<'a>, AllocError>
+    ensures { IfOk result (λ r. job_of r ≡ job (uses_of given.now) given.now.values) }
 {
     Ok(Job {
         base: first(given, "base").unwrap_or(DEFAULT_BASE),
@@ -145,17 +141,14 @@ fn job<'a>(
         caches: caches(given),
         dumps: dumps(given),
         branches: says(given, "branch-sim", "yes"),
-        watching,
         args: arguments(alloc, given)?,
     })
 }
 
 /// A run of these arguments, where each option but the beginning of the files' names has its default.
 pub fn default_job<'a>(base: &'a str, args: Vec<String>) -> Job<'a>
-    ensures { job_of result ≡ record (job Nothing (λ _. []) (map (λ word. string_bytes word) args.items)) {
-      base =
-          base.now;
-    } }
+    ensures { job_of result
+        ≡ record (job (λ _. []) (map (λ word. string_bytes word) args.items)) { base = base.now } }
 {
     Job {
         base,
@@ -174,7 +167,6 @@ pub fn default_job<'a>(base: &'a str, args: Vec<String>) -> Job<'a>
             after: None,
         },
         branches: false,
-        watching: Watching::Nothing,
         args,
     }
 }
@@ -227,8 +219,8 @@ pub fn command_request<'a>(
     ensures { IfOk result (λ r. meaning_of r ≡ command_request (command_of command) (uses_of given.now) given.now.values) }
 {
     Ok(match command {
-        Command::Run => Request::Run(job(alloc, watching(given), given)?),
-        Command::Report => Request::Report(job(alloc, own_watching(given), given)?, view(given)),
+        Command::Run => Request::Run(job(alloc, given)?, watching(given)),
+        Command::Report => Request::Report(job(alloc, given)?, positions(given), view(given)),
         Command::Annotate => Request::Annotate(files(alloc, given)?, view(given)),
         Command::Demo => demo(given),
     })

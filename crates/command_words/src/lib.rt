@@ -10,6 +10,6 @@ mod value;
 mod words;
 
 pub use job::default_job;
-pub use request::{Dumps, Geometries, Job, Request, Tree, View, Watching};
+pub use request::{Dumps, Geometries, Job, Positions, Request, Tree, View, Watching};
 pub use table::{Command, Kind, OptionRow, Takers, options};
 pub use words::read_words;

@@ -1,5 +1,9 @@
 //! What the words of a command line ask for.
 
+ghost use Rattle.std.specs.Prelude.{◌≡◌};
+ghost use Rattle.command_words.specs.Request.{watching_at};
+ghost use Rattle.command_words.specs.Meaning.{positions_of, watching_of};
+
 use cache_lru::Geometry;
 
 /// The caches of a run.
@@ -34,6 +38,25 @@ pub enum Watching {
     Addresses,
 }
 
+/// What the positions of a run's parts are.
+#[derive(Clone, Copy, Debug)]
+pub enum Positions {
+    Line,
+    AddressAndLine,
+}
+
+impl Positions {
+    /// What a run counts that puts such parts.
+    pub fn watching(self) -> Watching
+        ensures { watching_of result ≡ watching_at (positions_of self) }
+    {
+        match self {
+            Positions::Line => Watching::Nothing,
+            Positions::AddressAndLine => Watching::Addresses,
+        }
+    }
+}
+
 /// A program to be run, and how.
 #[derive(Debug, Drop)]
 pub struct Job<'a> {
@@ -51,7 +74,6 @@ pub struct Job<'a> {
     pub dumps: Dumps<'a>,
     /// Branches are counted and predicted.
     pub branches: bool,
-    pub watching: Watching,
     /// The program's name, and its arguments.
     pub args: Vec<String>,
 }
@@ -80,8 +102,8 @@ pub struct View<'a> {
 /// What is asked for.
 #[derive(Debug, Drop)]
 pub enum Request<'a> {
-    Run(Job<'a>),
-    Report(Job<'a>, View<'a>),
+    Run(Job<'a>, Watching),
+    Report(Job<'a>, Positions, View<'a>),
     /// The names of the profiles, one at least.
     Annotate(Vec<&'a str>, View<'a>),
     /// The size of the demonstration, from 1 to 100,000.

@@ -329,10 +329,10 @@ unmade_demo : (size : ℕ) → Blames (Quiet (MakesDemo size))
 unmade_demo size log s makes = wants_blame s log makes.comes
 
 pub asked_blames : (asked : Request) → MeetsBlame (DoesAsked asked)
-asked_blames (words.Run job) =
+asked_blames (words.Run job watching) =
     then_met _ _ (job_such IsToBlame blames _ job) (λ ran.
-    then_met _ _ (waits_blame job.watching ran.0) (λ put. end_met ran.1.end))
-asked_blames (words.Report job view) =
+    then_met _ _ (waits_blame watching ran.0) (λ put. end_met ran.1.end))
+asked_blames (words.Report job positions view) =
     then_met _ _ (job_such IsToBlame blames _ job) (λ ran.
     then_met _ _ (read_blames _ _) (λ p.
     then_met _ _ (report_such IsToBlame blames view p (λ position log over. tt)) (λ shown. end_met ran.1.end)))

@@ -50,8 +50,8 @@ use Rattle.command_status.specs.Lines.{message_of}
 use Rattle.command_status.specs.Numbers.{is_finished, is_short}
 use Rattle.command_status.specs.declared.status.Status.{Status}
 use Rattle.command_status.specs.declared.status.Status.TheVariants.{OutFault, OutOfMemory}
-use Rattle.command_words.specs.Request.{Request, Job, View}
-use Rattle.command_words.specs.Within.{IsJob, IsOfReport, IsWithin}
+use Rattle.command_words.specs.Request.{Request, Job, Positions, View, watching_at}
+use Rattle.command_words.specs.Within.{IsJob, IsWithin}
 use Rattle.command_steps.specs.Annotate.{IsSortPlace, read_status, report_options, write_fault}
 use Rattle.profile_cli.specs.ByCalls.{AreShown, GivesBack, IsFed, IsHeadlineByCalls, IsReportByCalls, loads_back}
 use Rattle.profile_cli.specs.Calls.{DoesAsked, DoesReport, MakesCalls}
@@ -403,22 +403,22 @@ abbrev with_line : Log → List Wrote → Log
 with_line work line = done_then work (record nothing_done { err = line })
 
 -- the work came to an end, and once the line on it is written whole, all is as it is to be
-abbrev IsReported : Job → View → Log → Status → Type 0
-IsReported job view work found =
+abbrev IsReported : Job → Positions → View → Log → Status → Type 0
+IsReported job positions view work found =
     (is_finished found ≡ true)
     × ((status : Status) (line : List Wrote) → status ≡ found
     → AreWritesOf {U = Unit {0}} (message_of status) line (Ok tt)
-    → IsReportByCalls job view status (with_line work line))
+    → IsReportByCalls job positions view status (with_line work line))
 
 -- behind a run that came to its end
-module _ (job : Job) (view : View) (within : IsJob job) (own : IsOfReport job.watching) (work before later : Log)
-    (run : RunEnd) (b : Began (parts_asked job.watching) job before run) (is : work ≡ done_then before later)
+module _ (job : Job) (positions : Positions) (view : View) (within : IsJob job) (work before later : Log)
+    (run : RunEnd) (b : Began (parts_asked (watching_at positions)) job before run) (is : work ≡ done_then before later)
     (gives : GivesBack (work.calls ++ [])) where
   abbrev guest : Program
   guest = guest_of job (image_of b.program) b.input b.on.syms
 
   abbrev put : List Named
-  put = (parts_asked job.watching guest).whole (steps_of b.on.trace) b.on.stop.tried
+  put = (parts_asked (watching_at positions) guest).whole (steps_of b.on.trace) b.on.stop.tried
 
   abbrev opening : List Call
   opening = Loaded (program_of job.args) program_limit (Ok b.program) ∷ b.feeding
@@ -461,7 +461,7 @@ module _ (job : Job) (view : View) (within : IsJob job) (own : IsOfReport job.wa
 
     own_is : IsReadAs guest b.on.trace p
     own_is =
-        (own_again job.watching own).read guest can entries b.on.trace makes b.on.stop p read_as_put.profile
+        (own_again positions).read guest can entries b.on.trace makes b.on.stop p read_as_put.profile
         read_as_put.joins
 
     none_too_large : (position : ℕ) → IsFirstOver p position → ⊥
@@ -471,7 +471,7 @@ module _ (job : Job) (view : View) (within : IsJob job) (own : IsOfReport job.wa
         none_over guest can b.on.trace makes own_is.profile own_is.of_run place sum of_sum)) over
 
     worked : (showing last : Log) → rest ≡ done_then showing last → HasShown view p showing → last ≡ nothing_done
-        → (found : Status) → found ≡ end_status run.end → IsReported job view work found
+        → (found : Status) → found ≡ end_status run.end → IsReported job positions view work found
     worked showing last show_then s nothing found found_is = (
       ap is_finished found_is ∙ end_finishes run.end,
       λ status line same are. record {
@@ -495,7 +495,7 @@ module _ (job : Job) (view : View) (within : IsJob job) (own : IsOfReport job.wa
             ∙ ap (λ (l : Log). opening ++ puts_of put ++ l.calls) later_is
             ∙ sym (append_assoc (opening ++ puts_of put) (loads_back put) (loads_of s.texts))
             ∙ ap (λ (files : List Named). opening ++ puts_of files ++ loads_back files ++ loads_of s.texts)
-            (own_files job.watching own guest b.on.trace b.on.stop);
+            (own_files positions guest b.on.trace b.on.stop);
         out = (
           b.running.out,
           s.writes,
@@ -524,7 +524,7 @@ module _ (job : Job) (view : View) (within : IsJob job) (own : IsOfReport job.wa
 
     shown_on : (comes : Result Status Status)
         → Then (Reports view p) (λ shown. Gives (end_status run.end)) rest comes
-        → IsShort (final_status comes) ⊎ IsReported job view work (final_status comes)
+        → IsShort (final_status comes) ⊎ IsReported job positions view work (final_status comes)
     shown_on comes (Stops s stop stops) =
         inl (subst (λ r. IsShort (final_status r)) (sym stop)
         (report_such Short shorts view p (λ position log over. absurd (none_too_large position over)) rest s stops))
@@ -535,25 +535,25 @@ module _ (job : Job) (view : View) (within : IsJob job) (own : IsOfReport job.wa
   read_on : (comes : Result Status Status)
       → Then (ReadsAll first (parts_wanted job.base run.parts)) (λ p.
       Then (Reports view p) (λ shown. Gives (end_status run.end))) later comes
-      → IsShort (final_status comes) ⊎ IsReported job view work (final_status comes)
+      → IsShort (final_status comes) ⊎ IsReported job positions view work (final_status comes)
   read_on comes (Stops s stop stops) =
       inl (subst (λ r. IsShort (final_status r)) (sym stop)
       (read_short first put (parts_wanted job.base run.parts) listed later.calls back later (λ call has. has)
       (head_of_run guest) refl
-      ((own_again job.watching own).texts guest can entries b.on.trace makes b.on.stop) s stops))
+      ((own_again positions).texts guest can entries b.on.trace makes b.on.stop) s stops))
   read_on comes (Goes p loading rest read_then all shows) = shown_on p loading rest read_then all comes shows
 
-work_on : (job : Job) (view : View) → IsJob job → IsOfReport job.watching → (work : Log)
+work_on : (job : Job) (positions : Positions) (view : View) → IsJob job → (work : Log)
     (comes : Result Status Status)
-    → DoesReport job view work comes ⊎ ((work ≡ nothing_done) × (comes ≡ Err (OutOfMemory memory)))
-    → GivesBack (work.calls ++ []) → IsShort (final_status comes) ⊎ IsReported job view work (final_status comes)
-work_on job view within own work comes (inr (none, wants)) gives =
+    → DoesReport job positions view work comes ⊎ ((work ≡ nothing_done) × (comes ≡ Err (OutOfMemory memory)))
+    → GivesBack (work.calls ++ []) → IsShort (final_status comes) ⊎ IsReported job positions view work (final_status comes)
+work_on job positions view within work comes (inr (none, wants)) gives =
     inl (subst (λ r. IsShort (final_status r)) (sym wants) refl)
-work_on job view within own work comes (inl (Stops s stop stops)) gives =
-    inl (subst (λ r. IsShort (final_status r)) (sym stop) (job_such Short shorts (parts_asked job.watching) job work s stops))
-work_on job view within own work comes (inl (Goes ran before later is runs reads)) gives =
-    read_on job view within own work before later ran.1 (began (parts_asked job.watching) job before ran runs) is gives
-    comes reads
+work_on job positions view within work comes (inl (Stops s stop stops)) gives =
+    inl (subst (λ r. IsShort (final_status r)) (sym stop) (job_such Short shorts (parts_asked (watching_at positions)) job work s stops))
+work_on job positions view within work comes (inl (Goes ran before later is runs reads)) gives =
+    read_on job positions view within work before later ran.1
+    (began (parts_asked (watching_at positions)) job before ran runs) is gives comes reads
 
 -- the line is written
 line_whole : (found status : Status) (line : List Wrote) (answer : Result (Unit {0}) WriteError)
@@ -568,22 +568,22 @@ line_whole found status line (Err write.Failed) are same finished long =
     absurd (not_short status
     (subst IsShort (sym (same ∙ ap (λ (b : Bool). if b then OutFault else found) finished)) refl) long)
 
-by_calls : (job : Job) (view : View) (found status : Status) (work : Log) (line : List Wrote)
+by_calls : (job : Job) (positions : Positions) (view : View) (found status : Status) (work : Log) (line : List Wrote)
     (answer : Result (Unit {0}) WriteError) → AreWritesOrWants (message_of found) line answer
-    → status ≡ after_line found answer → is_short status ≡ false → IsShort found ⊎ IsReported job view work found
-    → IsReportByCalls job view status (with_line work line)
-by_calls job view found status work line answer are is long (inl short) =
+    → status ≡ after_line found answer → is_short status ≡ false → IsShort found ⊎ IsReported job positions view work found
+    → IsReportByCalls job positions view status (with_line work line)
+by_calls job positions view found status work line answer are is long (inl short) =
     absurd (not_short status (subst IsShort (sym is) (short_line found answer short)) long)
-by_calls job view found status work line answer are is long (inr (finished, reports)) =
+by_calls job positions view found status work line answer are is long (inr (finished, reports)) =
     let said = line_whole found status line answer are is finished long in reports status line said.0 said.1
 
 pub IsHeadlineByCalls-told : (old new : Outside) (asked : Request) (status : Status) → IsWithin asked
     → MakesCalls old asked status new → IsHeadlineByCalls old asked status new
-IsHeadlineByCalls-told old new asked status within told = λ job view is long. (
+IsHeadlineByCalls-told old new asked status within told = λ job positions view is long. (
   with_line told.work told.line,
   told.tells,
-  λ gives. by_calls job view (final_status told.comes) status told.work told.line told.answer told.writes told.status_is long
-      (work_on job view (subst IsWithin is within).0 (subst IsWithin is within).3 told.work told.comes
+  λ gives. by_calls job positions view (final_status told.comes) status told.work told.line told.answer told.writes told.status_is long
+      (work_on job positions view (subst IsWithin is within).0 told.work told.comes
       (subst (λ (a : Request). DoesAsked a told.work told.comes
       ⊎ ((told.work ≡ nothing_done) × (told.comes ≡ Err (OutOfMemory memory)))) is told.does) gives),
 )

@@ -21,8 +21,8 @@ use Rattle.command_status.specs.declared.status.Status.{Status}
 use Rattle.command_status.specs.declared.status.Status.TheVariants.{Done, OutOfMemory, Usage}
 use Rattle.command_status.specs.declared.status.Status.TheVariants as wanted
 use Rattle.command_words.specs.Request as words
-use Rattle.command_words.specs.Request.{Request, Job, View}
-use Rattle.command_words.specs.Within.{IsJob, IsOfReport, IsWithin}
+use Rattle.command_words.specs.Request.{Request, Job, Positions, View, Watching, watching_at}
+use Rattle.command_words.specs.Within.{IsJob, IsWithin}
 use Rattle.profile_files.specs.Loads.{faultless_load}
 use Rattle.outside.specs.Load.{Load, bytes_of}
 use Rattle.profile_files.proofs.CompleteLemmas.{held_load}
@@ -269,11 +269,11 @@ module _ {parts : Program → Writing} (old new : Outside) (job : Job) (gates : 
 
 -- ---- the reply to `run`
 
-abbrev gates_of : Job → Course → List Gate
-gates_of job met = watch_gates job.watching job.base met.waits
+abbrev gates_of : Job → Watching → Course → List Gate
+gates_of job watching met = watch_gates watching job.base met.waits
 
-module _ (old new : Outside) (files : Files) (job : Job) (status : Status) (within : IsJob job)
-    (reply : IsReplied (parts_asked job.watching) old new job (gates_of job) status)
+module _ (old new : Outside) (files : Files) (job : Job) (watching : Watching) (status : Status) (within : IsJob job)
+    (reply : IsReplied (parts_asked watching) old new job (gates_of job watching) status)
     (told : old.files ≡ Some files) (calm : Rose old.load_faults new.load_faults → ⊥) where
   abbrev after_run : Outside
   after_run = before_line new reply.err
@@ -282,11 +282,11 @@ module _ (old new : Outside) (files : Files) (job : Job) (status : Status) (with
   loaded program input = record no_course { program = program; input = input }
 
   -- all that the run puts out, and the line
-  ends : IsWhole old job (bytes_of reply.met.program) (bytes_of reply.met.input) reply.found after_run → IsCalm old new
-      → Ends old job (loaded reply.met.program reply.met.input) status new
+  ends : IsWhole old job watching (bytes_of reply.met.program) (bytes_of reply.met.input) reply.found after_run → IsCalm old new
+      → Ends old job watching (loaded reply.met.program reply.met.input) status new
   ends w still =
-      let all = output_asked job.watching w.run.guest w.run.trace w.run.stop in
-      let line = line_said old new job (gates_of job) status reply still in record {
+      let all = output_asked watching w.run.guest w.run.trace w.run.stop in
+      let line = line_said old new job (gates_of job watching) status reply still in record {
         run = w.run;
         status_is = line.0 ∙ w.status_is;
         leaves = record {
@@ -298,35 +298,36 @@ module _ (old new : Outside) (files : Files) (job : Job) (status : Status) (with
         };
       }
 
-  certain_run : IfSome reply.met.run (IsWaitedIn old job reply.met after_run) → IsCertain old files (words.Run job) status new
+  certain_run : IfSome reply.met.run (IsWaitedIn old job reply.met after_run)
+      → IsCertain old files (words.Run job watching) status new
   certain_run waits =
-      decided old new job (gates_of job) status reply files
-      (IsCalm old new → Ends old job (faultless_course files job) status new) told calm
+      decided old new job (gates_of job watching) status reply files
+      (IsCalm old new → Ends old job watching (faultless_course files job) status new) told calm
       (λ passes program input found_is left still.
       let all = all_pass (loading job reply.met) passes in
-      subst (λ p. Ends old job (loaded p (faultless_course files job).input) status new) program
-      (subst (λ i. Ends old job (loaded reply.met.program i) status new) input
-      (by still (ran_on old job within reply.found after_run (λ s. s ≡ OutOfMemory memory) refl
+      subst (λ p. Ends old job watching (loaded p (faultless_course files job).input) status new) program
+      (subst (λ i. Ends old job watching (loaded reply.met.program i) status new) input
+      (by still (ran_on old job watching within reply.found after_run (λ s. s ≡ OutOfMemory memory) refl
       (λ name rose. absurd (still.puts rose)) reply.met all.1.0
       (λ syms refused output runs.
-      only_wants (parts_asked job.watching) old after_run job (image_of (bytes_of reply.met.program))
+      only_wants (parts_asked watching) old after_run job (image_of (bytes_of reply.met.program))
       (bytes_of reply.met.input) syms all.1.1.1.0 all.1.1.1.1.0 (calm_before old new reply.err reply.says.never_falls still) refused
       output runs)
       reply.met.run reply.is.run waits (record { status_is = found_is; leaves = left })))))
     where
       by : IsCalm old new
           → (reply.found ≡ OutOfMemory memory)
-          ⊎ IsWhole old job (bytes_of reply.met.program) (bytes_of reply.met.input) reply.found after_run
-          → Ends old job (loaded reply.met.program reply.met.input) status new
-      by still (inl none) = absurd (never old new job (gates_of job) status reply none)
+          ⊎ IsWhole old job watching (bytes_of reply.met.program) (bytes_of reply.met.input) reply.found after_run
+          → Ends old job watching (loaded reply.met.program reply.met.input) status new
+      by still (inl none) = absurd (never old new job (gates_of job watching) status reply none)
       by still (inr w) = ends w still
 
 -- ---- the reply to `report`
 
-module _ (old new : Outside) (files : Files) (job : Job) (view : View) (status : Status)
-    (reply : IsReplied (parts_asked job.watching) old new job (λ met. reporting_own met.profile met.report) status)
-    (told : old.files ≡ Some files) (calm : Rose old.load_faults new.load_faults → ⊥) (within : IsJob job)
-    (own : IsOfReport job.watching) where
+module _ (old new : Outside) (files : Files) (job : Job) (positions : Positions) (view : View) (status : Status)
+    (reply : IsReplied (parts_asked (watching_at positions)) old new job (λ met. reporting_own met.profile met.report)
+    status) (told : old.files ≡ Some files) (calm : Rose old.load_faults new.load_faults → ⊥)
+    (within : IsJob job) where
   abbrev mid : Outside
   mid = before_line new reply.err
 
@@ -334,26 +335,27 @@ module _ (old new : Outside) (files : Files) (job : Job) (view : View) (status :
   gates met = reporting_own met.profile met.report
 
   certain_own : IfSome reply.met.run (IsReported old job view reply.met mid)
-      → IsCertain old files (words.Report job view) status new
+      → IsCertain old files (words.Report job positions view) status new
   certain_own reported =
-      decided old new job gates status reply files (IsCalm old new → IsExactReport old job view status new) told calm
+      decided old new job gates status reply files (IsCalm old new → IsExactReport old job positions view status new)
+      told calm
       (λ passes program input found_is left still.
       let all = all_pass (loading job reply.met) passes in
-      by still (run_on old job view own files told within reply.found
+      by still (run_on old job positions view files told within reply.found
       mid (λ s. s ≡ (OutOfMemory memory)) refl
       (λ name rose. absurd (calm rose)) (λ rose. absurd (still.out rose)) reply.met all.0 all.1.0 all.1.1.0
       (λ syms refused output runs.
-      only_wants (parts_asked job.watching) old mid job (image_of (bytes_of reply.met.program))
+      only_wants (parts_asked (watching_at positions)) old mid job (image_of (bytes_of reply.met.program))
       (bytes_of reply.met.input) syms all.1.1.1.0 all.1.1.1.1.0 (calm_before old new reply.err reply.says.never_falls still) refused
       output runs)
       reply.is reported (record { status_is = found_is; leaves = left })))
     where
-      by : IsCalm old new → (reply.found ≡ (OutOfMemory memory)) ⊎ IsWorked old job view reply.found mid
-          → IsExactReport old job view status new
+      by : IsCalm old new → (reply.found ≡ (OutOfMemory memory)) ⊎ IsWorked old job positions view reply.found mid
+          → IsExactReport old job positions view status new
       by still (inl none) = absurd (never old new job gates status reply none)
       by still (inr worked) =
           let line = line_said old new job gates status reply still in
-          exact_of old new job view reply.found status reply.err worked line.0 line.1
+          exact_of old new job positions view reply.found status reply.err worked line.0 line.1
 
 -- ---- want of memory
 
@@ -370,8 +372,8 @@ unread request met none =
     (by request)
   where
     by : (request : Request) → (outcome (work request (record met { words_read = false }))).status ≡ OutOfMemory memory
-    by (words.Run job) = refl
-    by (words.Report job view) = refl
+    by (words.Run job watching) = refl
+    by (words.Report job positions view) = refl
     by (words.Annotate names view) = refl
     by (words.Demo size) = refl
     by words.Usage = refl
@@ -397,11 +399,12 @@ usage_stays old new asked status reply read known is =
     ∙ ap (λ (b : Bool). (gates_outcome (check (if b then None else Some (OutOfMemory memory)) ∷ []) Usage).status) read in
     stays reply.found status reply.says.answer (ap is_finished found) known reply.says.status_is ∙ found
 
-abbrev replied_run : (old new : Outside) (job : Job) (status : Status) → Replies old (words.Run job) status new
-    → status ≢ (OutOfMemory memory) → IsReplied (parts_asked job.watching) old new job (gates_of job) status
-replied_run old new job status reply known = record {
+abbrev replied_run : (old new : Outside) (job : Job) (watching : Watching) (status : Status)
+    → Replies old (words.Run job watching) status new → status ≢ (OutOfMemory memory)
+    → IsReplied (parts_asked watching) old new job (gates_of job watching) status
+replied_run old new job watching status reply known = record {
   met = reply.works.course;
-  read = was_read old new (words.Run job) status reply known;
+  read = was_read old new (words.Run job watching) status reply known;
   found = reply.found;
   err = reply.err;
   is = reply.works.met.0;
@@ -412,13 +415,13 @@ replied_run old new job status reply known = record {
   known = known;
 }
 
-abbrev replied_report : (old new : Outside) (job : Job) (view : View) (status : Status)
-    → Replies old (words.Report job view) status new
-    → status ≢ (OutOfMemory memory) → IsReplied (parts_asked job.watching) old new job
+abbrev replied_report : (old new : Outside) (job : Job) (positions : Positions) (view : View) (status : Status)
+    → Replies old (words.Report job positions view) status new
+    → status ≢ (OutOfMemory memory) → IsReplied (parts_asked (watching_at positions)) old new job
     (λ met. reporting_own met.profile met.report) status
-replied_report old new job view status reply known = record {
+replied_report old new job positions view status reply known = record {
   met = reply.works.course;
-  read = was_read old new (words.Report job view) status reply known;
+  read = was_read old new (words.Report job positions view) status reply known;
   found = reply.found;
   err = reply.err;
   is = reply.works.met.0;
@@ -451,12 +454,12 @@ annotated old new names view status reply read =
 
 pub IsComplete-replies : (old new : Outside) (asked : Request) (status : Status) → IsWithin asked
     → Replies old asked status new → IsComplete old asked status new
-IsComplete-replies old new (words.Run job) status within reply = λ files told calm known.
-    certain_run old new files job status within (replied_run old new job status reply known) told calm
-    reply.works.met.1
-IsComplete-replies old new (words.Report job view) status within reply = λ files told calm known.
-    certain_own old new files job view status (replied_report old new job view status reply known) told calm within.0
-    within.3 reply.works.met.1
+IsComplete-replies old new (words.Run job watching) status within reply = λ files told calm known.
+    certain_run old new files job watching status within.0 (replied_run old new job watching status reply known) told
+    calm reply.works.met.1
+IsComplete-replies old new (words.Report job positions view) status within reply = λ files told calm known.
+    certain_own old new files job positions view status (replied_report old new job positions view status reply known)
+    told calm within.0 reply.works.met.1
 IsComplete-replies old new (words.Annotate names view) status within reply = λ files told calm known.
     certain_report old new reply.err files names view reply.found status
     (annotated old new names view status reply (was_read old new (words.Annotate names view) status reply known))

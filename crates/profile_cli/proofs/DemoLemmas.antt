@@ -57,7 +57,6 @@ demo_is_job = record {
   budget = record { least_of = lit≤ tt; most_of = lit≤ tt };
   quantum = record { least_of = lit≤ tt; most_of = lit≤ tt };
   every = tt;
-  callers = tt;
   program = lit< tt;
 }
 

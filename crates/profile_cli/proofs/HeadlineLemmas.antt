@@ -7,8 +7,8 @@ use Rattle.outside.specs.Write.{taken_more}
 use Rattle.command_status.specs.Lines.{message_of}
 use Rattle.command_status.specs.Numbers.{is_short}
 use Rattle.command_status.specs.declared.status.Status.{Status}
-use Rattle.command_words.specs.Request.{Request, Job, Report, View}
-use Rattle.command_words.specs.Within.{IsJob, IsOfReport, IsWithin}
+use Rattle.command_words.specs.Request.{Request, Job, Positions, Report, View}
+use Rattle.command_words.specs.Within.{IsJob, IsWithin}
 use Rattle.profile_cli.specs.Headline.{IsHeadline}
 use Rattle.profile_cli.specs.OwnReport.{reporting_own}
 use Rattle.profile_cli.specs.Reply.{Replies}
@@ -17,30 +17,30 @@ use Rattle.profile_cli.proofs.WalkLemmas.{line_written, loading_on, loading_shor
 use Rattle.profile_cli.proofs.ShortLemmas.{IsShort, fault_short}
 
 -- the work was not stopped short, and then the line was written
-pub record IsReported (old new : Outside) (job : Job) (view : View) (status : Status) (replies : Replies old
-    (Report job view) status new) : Type 0 where
-  pub worked : IsWorked old job view replies.found (record new { err = replies.err })
+pub record IsReported (old new : Outside) (job : Job) (positions : Positions) (view : View) (status : Status)
+    (replies : Replies old (Report job positions view) status new) : Type 0 where
+  pub worked : IsWorked old job positions view replies.found (record new { err = replies.err })
   pub status_is : status ≡ replies.found
   pub written : new.err.taken ≡ taken_more replies.err.taken (message_of replies.found)
 
-pub reported_or_short : (old new : Outside) (job : Job) (view : View) (status : Status) → IsJob job
-    → IsOfReport job.watching → (replies : Replies old (Report job view) status new) → (contents : Files)
-    → old.files ≡ Some contents → is_short status ≡ false → IsReported old new job view status replies
-reported_or_short old new job view status within own replies contents told long =
+pub reported_or_short : (old new : Outside) (job : Job) (positions : Positions) (view : View) (status : Status)
+    → IsJob job → (replies : Replies old (Report job positions view) status new) → (contents : Files)
+    → old.files ≡ Some contents → is_short status ≡ false → IsReported old new job positions view status replies
+reported_or_short old new job positions view status within replies contents told long =
     by (loading_on IsShort old job replies.found (record new { err = replies.err })
-    (IsWorked old job view replies.found (record new { err = replies.err }))
+    (IsWorked old job positions view replies.found (record new { err = replies.err }))
     replies.works.course (loading_short job replies.works.course)
     (reporting_own replies.works.course.profile replies.works.course.report)
     (λ program_none elf_none input_none at.
-    run_on old job view own contents told within replies.found
+    run_on old job positions view contents told within replies.found
     (record new { err = replies.err }) IsShort refl
     (λ name rose. refl) (λ rose. refl) replies.works.course
     program_none elf_none input_none (λ syms refused output runs. fault_short job.base refused) replies.works.met.0
     replies.works.met.1 at)
     (record { status_is = replies.works.status_is; leaves = replies.works.leaves }))
   where
-    by : IsShort replies.found ⊎ IsWorked old job view replies.found (record new { err = replies.err })
-        → IsReported old new job view status replies
+    by : IsShort replies.found ⊎ IsWorked old job positions view replies.found (record new { err = replies.err })
+        → IsReported old new job positions view status replies
     by (inl short) = absurd (work_short replies.found status replies.err new.err replies.says short long)
     by (inr w) =
         let said =
@@ -49,8 +49,7 @@ reported_or_short old new job view status within own replies contents told long 
 
 pub IsHeadline-replies : (old new : Outside) (asked : Request) (status : Status) → IsWithin asked
     → Replies old asked status new → IsHeadline old asked status new
-IsHeadline-replies old new asked status within replies = λ files job view is told long.
+IsHeadline-replies old new asked status within replies = λ files job positions view is told long.
     let reply = subst (λ a. Replies old a status new) is replies in
-    let all = reported_or_short old new job view status (subst IsWithin is within).0 (subst IsWithin is within).3 reply
-    files told long in
-    exact_of old new job view reply.found status reply.err all.worked all.status_is all.written
+    let all = reported_or_short old new job positions view status (subst IsWithin is within).0 reply files told long in
+    exact_of old new job positions view reply.found status reply.err all.worked all.status_is all.written

@@ -21,8 +21,8 @@ use Rattle.report_laws.specs.Exact.{parts_wanted}
 use Rattle.command_status.specs.Ends.{end_status}
 use Rattle.command_status.specs.declared.status.Status.{Status}
 use Rattle.command_status.specs.declared.status.Status.TheVariants.{Usage}
-use Rattle.command_words.specs.Request.{Job, Report, View}
-use Rattle.command_words.specs.Within.{IsSortShown}
+use Rattle.command_words.specs.Request.{AddressAndLine, Job, Line, Positions, Report, View, Watching, watching_at}
+use Rattle.command_words.specs.Within.{AreFew, IsSortShown}
 use Rattle.command_steps.specs.Annotate.{IsShown, IsTaken, ReportOutcome, reporting, sort_fault, text_of}
 use Rattle.command_steps.specs.Stages.{final_status}
 use Rattle.profile_cli.specs.Course.{Course}
@@ -34,7 +34,7 @@ use Rattle.profile_cli.specs.Reply.{IsRun, Works}
 use Rattle.profile_cli.specs.Watching.{parts_asked}
 use Rattle.profile_cli.specs.Words.{program_of}
 use Rattle.command_steps.specs.ReportStages.{HasEvents, ReadsFiles, ShowsReport, report_status}
-use Rattle.profile_cli.specs.inner.RunStages.{IsAny, RanToEnd, end_result}
+use Rattle.profile_cli.specs.inner.RunStages.{IsAny, RanToEnd, RunsJob, end_result}
 use Rattle.profile_cli.proofs.LoadLemmas.{IsLoadIf-within}
 use Rattle.profile_cli.proofs.OutsideLemmas.{Leaves-nothing}
 use Rattle.profile_cli.proofs.WorkLemmas.{guest_with, met_to_end, past_run, whole_refused}
@@ -76,8 +76,8 @@ own_sorted : (p : Contents) (events : List (List ℕ)) (sort : Option (List ℕ)
 own_sorted p events None has is = refl
 own_sorted p events (Some event) has is = ap (λ (b : Bool). if b then None else Some Usage) (has event is)
 
-module _ (old mid : Outside) (job : Job) (view : View) (run : RunEnd)
-    (ran : RanToEnd (parts_asked job.watching) IsAny old job run mid) where
+module _ (old mid : Outside) (job : Job) (positions : Positions) (view : View) (run : RunEnd)
+    (ran : RanToEnd (parts_asked (watching_at positions)) IsAny old job run mid) where
   abbrev last : Status
   last = end_status run.end
 
@@ -86,7 +86,7 @@ module _ (old mid : Outside) (job : Job) (view : View) (run : RunEnd)
 
   -- the run came to its end, whatever was loaded after it
   still_run : (new : Outside) (read : Result Contents ReadFault) (shown : Option ReportOutcome)
-      → mid.load_faults ≤ new.load_faults → IsRun (parts_asked job.watching) old job (met_with read shown) new
+      → mid.load_faults ≤ new.load_faults → IsRun (parts_asked (watching_at positions)) old job (met_with read shown) new
   still_run new read shown late = record {
     program = IsLoadIf-within old.files (Some (program_of job.args)) program_limit old.load_faults old.load_faults
         mid.load_faults new.load_faults (Ok ran.program) (omega arith) late ran.load;
@@ -114,7 +114,7 @@ module _ (old mid : Outside) (job : Job) (view : View) (run : RunEnd)
       (parts_to_read job (Ok run)) read
       → IfOk read IsProfile → IfSome shown (λ s. IfOk read (λ p. IsShown (once_put old new) view p new s))
       → gates_outcome (reporting_own read shown) last ≡ record { status = status; output = next }
-      → Leaves old (and_then ran.output next) new → Works old (Report job view) status new
+      → Leaves old (and_then ran.output next) new → Works old (Report job positions view) status new
   works_on new read shown status next late reading profile shows comes leaves =
       let all = past_run old mid job run ran (reporting_own read shown) last
       ∙ ap (λ o. at_gate None ran.output o) comes in record {
@@ -136,7 +136,7 @@ module _ (old mid : Outside) (job : Job) (view : View) (run : RunEnd)
       (parts_wanted job.base run.parts) (Err status)
       → new.files ≡ mid.files → new.out ≡ mid.out → new.err ≡ mid.err
       → old.load_faults ≤ mid.load_faults → mid.load_faults ≤ new.load_faults
-      → Works old (Report job view) status new
+      → Works old (Report job positions view) status new
   Works-unread_parts new status (refused, reading, is) same out err early late =
       works_on new (Err refused) None status nothing late
       (still_read new new (Err refused) reading same early (omega arith)) tt tt
@@ -165,7 +165,7 @@ module _ (old mid : Outside) (job : Job) (view : View) (run : RunEnd)
       → later.files ≡ mid.files → later.out ≡ mid.out → later.err ≡ mid.err
       → old.load_faults ≤ mid.load_faults → mid.load_faults ≤ later.load_faults → later.load_faults ≤ new.load_faults
       → old.out.faults ≤ mid.out.faults → ShowsReport later view p result new
-      → Works old (Report job view) (report_status last result) new
+      → Works old (Report job positions view) (report_status last result) new
   Works-reported later new p result reading profile events sorted same out err first second third faults shows =
       let none = own_sorted p (events_shown job.branches event_names) view.sort events sorted in
       works_on new (Ok p) shows.report (report_status last result) shows.output (omega (arith, second, third))
@@ -176,11 +176,26 @@ module _ (old mid : Outside) (job : Job) (view : View) (run : RunEnd)
       (Leaves-then old later new ran.output shows.output no_put_refused shows.puts shows.refused
       (Leaves-later old mid later ran.output same out err ran.leaves) shows.leaves shows.same_files)
 
+-- a run that puts parts with these positions
+pub ran_at : (watching : Watching) (positions : Positions) → watching ≡ watching_at positions → (old new : Outside)
+    (job : Job) (result : Result RunEnd Status) → RunsJob (parts_asked watching) IsAny old job result new
+    → RunsJob (parts_asked (watching_at positions)) IsAny old job result new
+ran_at watching positions is old new job result = subst (λ w. RunsJob (parts_asked w) IsAny old job result new) is
+
+-- so few callers are told apart there as can be
+pub few_at : (watching : Watching) (positions : Positions) → watching ≡ watching_at positions → AreFew watching
+few_at watching positions is = subst AreFew (sym is) (by positions)
+  where
+    by : (positions : Positions) → AreFew (watching_at positions)
+    by Line = tt
+    by AddressAndLine = tt
+
 -- the end of a run, as its fields have it
-pub Works-ended : (old new : Outside) (job : Job) (view : View) (run inside : RunEnd) → run ≡ inside
-    → Works old (Report job view) (end_status run.end) new → Works old (Report job view) (end_status inside.end) new
-Works-ended old new job view run inside same works =
-    subst (λ (r : RunEnd). Works old (Report job view) (end_status r.end) new) same works
+pub Works-ended : (old new : Outside) (job : Job) (positions : Positions) (view : View) (run inside : RunEnd)
+    → run ≡ inside → Works old (Report job positions view) (end_status run.end) new
+    → Works old (Report job positions view) (end_status inside.end) new
+Works-ended old new job positions view run inside same works =
+    subst (λ (r : RunEnd). Works old (Report job positions view) (end_status r.end) new) same works
 
 -- the parts that a run lists
 pub of_parts : (told : Option Files) (before now : ℕ) (events : List (List ℕ)) (base : List ℕ)
@@ -191,9 +206,9 @@ of_parts told before now events base parts parts_to_read result same reads =
     subst (λ ps. ReadsFiles told before now events (parts_wanted base ps) result) same reads
 
 -- a stage stopped the work
-pub Works-report_exit : (old new : Outside) (job : Job) (view : View) (stop : Status) (result : Result End Status)
-    → IsErrAnd result (λ status. status ≡ stop)
-    → Works old (Report job view) stop new → Works old (Report job view) (final_status (end_result result)) new
-Works-report_exit old new job view stop (Ok end) none works = absurd none
-Works-report_exit old new job view stop (Err status) is works =
-    subst (λ s. Works old (Report job view) s new) (sym is) works
+pub Works-report_exit : (old new : Outside) (job : Job) (positions : Positions) (view : View) (stop : Status)
+    (result : Result End Status) → IsErrAnd result (λ status. status ≡ stop)
+    → Works old (Report job positions view) stop new → Works old (Report job positions view) (final_status (end_result result)) new
+Works-report_exit old new job positions view stop (Ok end) none works = absurd none
+Works-report_exit old new job positions view stop (Err status) is works =
+    subst (λ s. Works old (Report job positions view) s new) (sym is) works

@@ -14,8 +14,7 @@ use Rattle.run_laws.specs.Runs.{parts_written}
 use Rattle.run_laws.proofs.PartLemmas.{are_parts, texts_same}
 use Rattle.run_laws.specs.Addresses.{addr_parts}
 use Rattle.report_laws.specs.Rows.{AreEntriesSmall}
-use Rattle.command_words.specs.Request.{Addresses, Contexts, Nothing, Waits, Watching}
-use Rattle.command_words.specs.Within.{IsOfReport}
+use Rattle.command_words.specs.Request.{AddressAndLine, Line, Positions, watching_at}
 use Rattle.profile_cli.specs.Watching.{parts_asked}
 use Rattle.profile_cli.proofs.ReadBackLemmas.{IsReadAs}
 
@@ -62,8 +61,6 @@ addr_again = record {
 }
 
 -- those that `report` may have
-pub own_again : (w : Watching) → IsOfReport w → AreReadAgain (parts_asked w)
-own_again Nothing own = plain_again
-own_again Addresses own = addr_again
-own_again Waits own = absurd own
-own_again (Contexts callers) own = absurd own
+pub own_again : (positions : Positions) → AreReadAgain (parts_asked (watching_at positions))
+own_again Line = plain_again
+own_again AddressAndLine = addr_again

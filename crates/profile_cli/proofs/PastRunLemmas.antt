@@ -37,22 +37,22 @@ use Rattle.command_status.specs.Ends.{end_status}
 use Rattle.command_status.specs.Lines.{message_of}
 use Rattle.command_status.specs.declared.status.Status.{Status}
 use Rattle.command_status.specs.declared.status.Status.TheVariants.{LoadFault, OutFault, OutOfMemory}
-use Rattle.command_words.specs.Request.{Job, View}
-use Rattle.command_words.specs.Within.{IsJob, IsOfReport}
+use Rattle.command_words.specs.Request.{Job, Positions, View, watching_at}
+use Rattle.command_words.specs.Within.{IsJob}
 use Rattle.command_steps.specs.Annotate.{IsMade, IsShown, IsTaken, read_fault, read_status, report_fault}
 use Rattle.command_steps.specs.Annotate.{report_options, reporting, text_of, write_fault, AreTextsFor, IsSortPlace}
 use Rattle.command_steps.specs.Annotate.{ReportOutcome}
 use Rattle.profile_cli.specs.Course.{Course, RunOutcome}
 use Rattle.command_steps.specs.Loading.{IsLoadIf, input_fault, input_limit, load_fault}
 use Rattle.command_steps.specs.Gates.{Outcome, at_gate, gates_outcome}
-use Rattle.profile_cli.specs.HasRun.{HasRun}
+use Rattle.profile_cli.specs.HasRun.{HasRun, RunFiles}
 use Rattle.profile_cli.specs.Headline.{IsExactReport, ReportOn}
 use Rattle.profile_cli.specs.Order.{elf_fault, elf_status, fault_status, last_status, program_limit, run_fault}
 use Rattle.profile_cli.specs.Order.{run_gate, run_status}
 use Rattle.profile_cli.specs.OwnReport.{IsReported, parts_to_read, once_put, reporting_own}
 use Rattle.profile_cli.specs.Program.{IsMapOf, guest_of}
 use Rattle.profile_cli.specs.Reply.{IsRan, IsRun, guest_met}
-use Rattle.profile_cli.specs.Watching.{parts_asked}
+use Rattle.profile_cli.specs.Watching.{files_at, parts_asked}
 use Rattle.profile_cli.specs.Words.{program_of}
 use Rattle.profile_cli.proofs.ReadBackLemmas.{CanBeReadBack, IsReadAs, entries_small, none_first, own_files}
 use Rattle.profile_cli.proofs.ReadBackLemmas.{report_on, own_read, texts_over}
@@ -87,8 +87,9 @@ quiet_report found shown last =
 -- ---- behind the run
 
 -- what the work comes to before the line is written
-pub record IsWorked (old : Outside) (job : Job) (view : View) (found : Status) (mid : Outside) : Type 0 where
-  pub run : HasRun old job found mid
+pub record IsWorked (old : Outside) (job : Job) (positions : Positions) (view : View) (found : Status)
+    (mid : Outside) : Type 0 where
+  pub run : HasRun old job (files_at positions) found mid
   pub can : CanRun run.run.guest
   pub report_on : ReportOn run.run.guest run.run.trace view
   pub sources : AreTextsFor view.auto mid.files old.load_faults mid.load_faults report_on.report.profile report_on.texts
@@ -121,19 +122,19 @@ accepted_is (Some error) none = absurd (cc)
 -- ---- the gates
 
 -- Where the work behind the run stops, its status is of the sort that is given; else the report is on the run.
-module _ (old : Outside) (job : Job) (view : View) (own : IsOfReport job.watching) (contents : Files)
+module _ (old : Outside) (job : Job) (positions : Positions) (view : View) (contents : Files)
     (told : old.files ≡ Some contents)
     (within : IsJob job) (found : Status) (mid : Outside) (Stops : Status → Type 0) (wants : Stops (OutOfMemory memory))
     (lost : (name : List ℕ) → Rose old.load_faults mid.load_faults → Stops (LoadFault name))
     (unwritten : Rose old.out.faults mid.out.faults → Stops OutFault) where
   abbrev Goal : Type 0
-  Goal = Stops found ⊎ IsWorked old job view found mid
+  Goal = Stops found ⊎ IsWorked old job positions view found mid
 
   abbrev parts : Program → Writing
-  parts = parts_asked job.watching
+  parts = parts_asked (watching_at positions)
 
   abbrev back : CanBeReadBack parts
-  back = own_read job.watching own
+  back = own_read positions
 
   module _ (program input : List ℕ)
       (loaded : IsLoad old.files (program_of job.args) program_limit old.load_faults mid.load_faults (Ok program))
@@ -184,7 +185,7 @@ module _ (old : Outside) (job : Job) (view : View) (own : IsOfReport job.watchin
             status_is = at.status_is ∙ ap end_status ran.end;
             files = holds
                 ∙ ap (λ files. option_map (with_files files) old.files)
-                (own_files job.watching own guest ran.trace ran.stop);
+                (own_files positions guest ran.trace ran.stop);
           };
           can = can;
           report_on = report_on guest can ran.trace makes view p is s.sort s.texts text reports sorted;
@@ -335,9 +336,9 @@ module _ (old : Outside) (job : Job) (view : View) (own : IsOfReport job.watchin
 -- ---- the line behind it
 
 -- the run stays as it is
-abbrev pub same_run : (old new : Outside) (job : Job) (found status : Status) (err : Stream)
-    → HasRun old job found (record new { err = err }) → status ≡ found → HasRun old job status new
-same_run old new job found status err has is = record {
+abbrev pub same_run : (old new : Outside) (job : Job) (put : RunFiles) (found status : Status) (err : Stream)
+    → HasRun old job put found (record new { err = err }) → status ≡ found → HasRun old job put status new
+same_run old new job put found status err has is = record {
   program = has.program;
   loaded = has.loaded;
   input = has.input;
@@ -348,12 +349,12 @@ same_run old new job found status err has is = record {
 }
 
 -- the report is exact once the line is written
-pub exact_of : (old new : Outside) (job : Job) (view : View) (found status : Status) (err : Stream)
-    → IsWorked old job view found (record new { err = err }) → status ≡ found
+pub exact_of : (old new : Outside) (job : Job) (positions : Positions) (view : View) (found status : Status)
+    (err : Stream) → IsWorked old job positions view found (record new { err = err }) → status ≡ found
     → new.err.taken ≡ taken_more err.taken (message_of found)
-    → IsExactReport old job view status new
-exact_of old new job view found status err w is written = record {
-  run = same_run old new job found status err w.run is;
+    → IsExactReport old job positions view status new
+exact_of old new job positions view found status err w is written = record {
+  run = same_run old new job (files_at positions) found status err w.run is;
   report_on = w.report_on;
   sources = w.sources;
   out = w.out;

@@ -26,12 +26,11 @@ use Rattle.run_laws.specs.Addresses.{addr_parts}
 use Rattle.report_laws.specs.Rows.{AreEntriesSmall}
 use Rattle.report_laws.proofs.AddrOwnLemmas as addresses
 use Rattle.report_laws.proofs.ReportLemmas.{report_of_run}
-use Rattle.command_words.specs.Request.{Addresses, Contexts, Nothing, View, Waits, Watching}
-use Rattle.command_words.specs.Within.{IsOfReport}
+use Rattle.command_words.specs.Request.{AddressAndLine, Line, Positions, View, watching_at}
 use Rattle.command_steps.specs.Annotate.{AreTextsFor, IsSortPlace, report_options}
 use Rattle.profile_cli.specs.Headline.{ReportOn}
 use Rattle.profile_cli.specs.Program.{IsMapOf, lines_of}
-use Rattle.profile_cli.specs.Watching.{files_asked, parts_asked}
+use Rattle.profile_cli.specs.Watching.{files_at, parts_asked}
 use Rattle.profile_cli.proofs.CountLemmas.{counts_of}
 
 -- Reports on it are reports on a profile of all rows of the run, which shows the same events and source files.
@@ -100,19 +99,16 @@ addr_read = record {
 }
 
 -- those that `report` may have
-pub own_read : (w : Watching) → IsOfReport w → CanBeReadBack (parts_asked w)
-own_read Nothing own = plain_read
-own_read Addresses own = addr_read
-own_read Waits own = absurd own
-own_read (Contexts callers) own = absurd own
+pub own_read : (positions : Positions) → CanBeReadBack (parts_asked (watching_at positions))
+own_read Line = plain_read
+own_read AddressAndLine = addr_read
 
 -- are all of its files
-pub own_files : (w : Watching) → IsOfReport w → (guest : Program) (trace : List RunStep) (stop : Stop)
-    → (parts_asked w guest).whole (steps_of trace) stop.tried ≡ files_asked w guest trace stop
-own_files Nothing own guest trace stop = refl
-own_files Addresses own guest trace stop = refl
-own_files Waits own guest trace stop = absurd own
-own_files (Contexts callers) own guest trace stop = absurd own
+pub own_files : (positions : Positions) (guest : Program) (trace : List RunStep) (stop : Stop)
+    → (parts_asked (watching_at positions) guest).whole (steps_of trace) stop.tried
+    ≡ files_at positions guest trace stop
+own_files Line guest trace stop = refl
+own_files AddressAndLine guest trace stop = refl
 
 -- ---- what is said of the one is said of the other
 

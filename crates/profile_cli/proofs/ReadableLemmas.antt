@@ -21,8 +21,8 @@ use Rattle.command_status.specs.Ends.{end_status}
 use Rattle.command_status.specs.Numbers.{is_finished}
 use Rattle.command_status.specs.declared.status.Status.{Status}
 use Rattle.command_status.specs.declared.status.Status.TheVariants.{OutFault, OutOfMemory}
-use Rattle.command_words.specs.Request.{Request, Demo, Job, Report, View}
-use Rattle.command_words.specs.Within.{IsJob, IsOfReport, IsWithin}
+use Rattle.command_words.specs.Request.{Request, Demo, Job, Positions, Report, View}
+use Rattle.command_words.specs.Within.{IsJob, IsWithin}
 use Rattle.profile_cli.specs.Course.{Course}
 use Rattle.command_steps.specs.Loading.{IsLoadIf, input_fault, input_limit, load_fault}
 use Rattle.profile_cli.specs.Demo.{demo_job}
@@ -106,19 +106,19 @@ module _ (old new : Outside) (job : Job) where
     pages = tt;
   }
 
-  readable : (view : View) (status : Status) → IsJob job → IsOfReport job.watching
-      → (replies : Replies old (Report job view) status new) → (contents : Files) → old.files ≡ Some contents
-      → StopsJob status
-  readable view status within own replies contents told =
+  readable : (positions : Positions) (view : View) (status : Status) → IsJob job
+      → (replies : Replies old (Report job positions view) status new) → (contents : Files)
+      → old.files ≡ Some contents → StopsJob status
+  readable positions view status within replies contents told =
       subst StopsJob (sym replies.says.status_is)
       (line_is (IsOfJob old job new) replies.found replies.says.answer
       (by (loading_on StopsJob old job replies.found (record new { err = replies.err })
-      (IsWorked old job view replies.found (record new { err = replies.err }))
+      (IsWorked old job positions view replies.found (record new { err = replies.err }))
       replies.works.course
       (loading_stops replies.works.course replies.works.met.0.program replies.works.met.0.input)
       (reporting_own replies.works.course.profile replies.works.course.report)
       (λ program_none elf_none input_none at.
-      run_on old job view own contents told within replies.found
+      run_on old job positions view contents told within replies.found
       (record new { err = replies.err }) StopsJob tt
       (λ name rose. tt) (λ rose. tt) replies.works.course
       program_none elf_none input_none
@@ -126,7 +126,7 @@ module _ (old new : Outside) (job : Job) where
       replies.works.met.1 at)
       (record { status_is = replies.works.status_is; leaves = replies.works.leaves }))))
     where
-      by : StopsJob replies.found ⊎ IsWorked old job view replies.found (record new { err = replies.err })
+      by : StopsJob replies.found ⊎ IsWorked old job positions view replies.found (record new { err = replies.err })
           → StopsJob replies.found
       by (inl such) = such
       by (inr w) = subst StopsJob (sym w.run.status_is) (end_is (IsOfJob old job new) w.run.run.stop.end)
@@ -171,8 +171,8 @@ readable_demo old new size status replies contents told =
 pub IsReadable-replies : (old new : Outside) (asked : Request) (status : Status) → IsWithin asked
     → Replies old asked status new → IsReadable old asked status new
 IsReadable-replies old new asked status within replies = record {
-  report = λ files job view is told.
-      readable old new job view status (subst IsWithin is within).0 (subst IsWithin is within).3
+  report = λ files job positions view is told.
+      readable old new job positions view status (subst IsWithin is within).0
       (subst (λ a. Replies old a status new) is replies) files told;
   demo = λ files size is told.
       readable_demo old new size status (subst (λ a. Replies old a status new) is replies) files told;

@@ -77,7 +77,7 @@ RunsGuest-ran parts job image syms input args options old run new args_are optio
       answered = refl;
       output = ran.output;
       runs = ran.runs;
-      leaves = ran.left;
+      leaves = ran.leaves;
       outcome = Ok run;
       same = refl;
       log = ran.log;
@@ -108,7 +108,7 @@ RunsGuest-refused parts job image syms input args options old refused status new
       output = ran.output;
       runs = Runs-unnamed (parts (guest_of job image input syms)) (guest_of job image input syms) old refused
           ran.output new ran.runs;
-      leaves = ran.left;
+      leaves = ran.leaves;
       outcome = Err refused;
       same = tt;
       log = ran.log;
@@ -121,7 +121,7 @@ RunsGuest-refused parts job image syms input args options old refused status new
       answered = (refused, refl, sym (same_Some _ _ is));
       output = ran.output;
       runs = ran.runs;
-      leaves = ran.left;
+      leaves = ran.leaves;
       outcome = Err refused;
       same = tt;
       log = ran.log;

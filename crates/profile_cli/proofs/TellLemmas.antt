@@ -25,7 +25,7 @@ use Rattle.command_status.specs.Lines.{message_of}
 use Rattle.command_status.specs.declared.status.Status.{Status}
 use Rattle.command_status.specs.declared.status.Status.TheVariants.{OutOfMemory, Usage}
 use Rattle.command_words.specs.Request as words
-use Rattle.command_words.specs.Request.{Request, Job, View, Waits, Watching}
+use Rattle.command_words.specs.Request.{Request, Job, Positions, View, Waits, Watching, watching_at}
 use Rattle.command_words.specs.Within.{IsJob}
 use Rattle.report_laws.specs.Exact.{parts_wanted}
 use Rattle.profile_cli.specs.Calls.{DoesAsked, DoesDemo, DoesReport, DoesRun, MakesCalls, SumsUp, SumsUpIf}
@@ -111,22 +111,6 @@ put_of_run old mid new job run first last result within fresh ran did =
 
 -- ---- `run`
 
--- what is told where the parts and the report on waiting are those of a kind
-abbrev kind : Watching → Job → Log → Result Status Status → Type 0
-kind w job =
-    Then (LoadsAndRuns (parts_asked w) job) (λ ran.
-    Then (PutsWaits w ran.0) (λ put.
-    Gives (end_status ran.1.end)))
-
-of_kind : (w : Watching) (old new : Outside) (job : Job) (result : Result Status Status) → job.watching ≡ w
-    → Did (kind w job) old result new → Did (DoesRun job) old result new
-of_kind w old new job result is = subst (λ v. Did (kind v job) old result new) (sym is)
-
--- it stopped before the end of the run
-pub told_stopped : (w : Watching) (old new : Outside) (job : Job) (status : Status) → job.watching ≡ w
-    → Did (LoadsAndRuns (parts_asked w) job) old (Err status) new → Did (DoesRun job) old (Err status) new
-told_stopped w old new job status is did = of_kind w old new job (Err status) is (then_stops old new status did)
-
 -- where the report on waiting was put, or not
 abbrev pub after_put : RunEnd → Result (Unit {0}) Status → Result Status Status
 after_put run (Ok _) = Ok (end_status run.end)
@@ -140,23 +124,23 @@ put_then mid new guest run (Ok done) put =
 put_then mid new guest run (Err status) put = then_stops mid new status put
 
 pub told_waits : (old mid new : Outside) (job : Job) (run inside : RunEnd) (first last : WaitState)
-    (result : Result (Unit {0}) Status) → job.watching ≡ Waits → IsJob job → first.books ≡ keeping.nothing
+    (result : Result (Unit {0}) Status) → IsJob job → first.books ≡ keeping.nothing
     → run ≡ inside → RanToEnd plain_parts (inner.HasWatched keeping.watching first last) old job run mid
-    → Did (PutsText last.books job) mid result new → Did (DoesRun job) old (after_put inside result) new
-told_waits old mid new job run inside first last result is within fresh same ran did =
+    → Did (PutsText last.books job) mid result new → Did (DoesRun job Waits) old (after_put inside result) new
+told_waits old mid new job run inside first last result within fresh same ran did =
     let guest = guest_with job ran.program ran.input ran.syms in
-    subst (λ (r : RunEnd). Did (DoesRun job) old (after_put r result) new) same
-    (of_kind Waits old new job (after_put run result) is
+    subst (λ (r : RunEnd). Did (DoesRun job Waits) old (after_put r result) new) same
     (then_goes old mid new (guest, run) (after_put run result) ran.did
-    (put_then mid new guest run result (put_of_run old mid new job run first last result within fresh ran did))))
+    (put_then mid new guest run result (put_of_run old mid new job run first last result within fresh ran did)))
 
 -- nothing is put behind the parts
-pub told_run : (old new : Outside) (job : Job) (guest : Program) (run inside : RunEnd) (status : Status)
-    → ((log : Log) (result : Result (Unit {0}) Status) → Gives tt log result → PutsWaits job.watching guest log result)
+pub told_run : (old new : Outside) (job : Job) (watching : Watching) (guest : Program) (run inside : RunEnd)
+    (status : Status)
+    → ((log : Log) (result : Result (Unit {0}) Status) → Gives tt log result → PutsWaits watching guest log result)
     → status ≡ end_status inside.end → inside ≡ run
-    → Did (LoadsAndRuns (parts_asked job.watching) job) old (Ok (guest, run)) new
-    → DidWork old (words.Run job) status new
-told_run old new job guest run inside status quiet is same ran = record {
+    → Did (LoadsAndRuns (parts_asked watching) job) old (Ok (guest, run)) new
+    → DidWork old (words.Run job watching) status new
+told_run old new job watching guest run inside status quiet is same ran = record {
   comes = Ok (end_status run.end);
   did = then_goes old new new (guest, run) (Ok (end_status run.end)) ran
       (then_goes new new new tt (Ok (end_status run.end)) (record {
@@ -167,9 +151,10 @@ told_run old new job guest run inside status quiet is same ran = record {
   status_is = is ∙ ap (λ (r : RunEnd). end_status r.end) same;
 }
 
-pub told_run_stopped : (old new : Outside) (job : Job) (status : Status)
-    → Did (LoadsAndRuns (parts_asked job.watching) job) old (Err status) new → DidWork old (words.Run job) status new
-told_run_stopped old new job status did =
+pub told_run_stopped : (old new : Outside) (job : Job) (watching : Watching) (status : Status)
+    → Did (LoadsAndRuns (parts_asked watching) job) old (Err status) new
+    → DidWork old (words.Run job watching) status new
+told_run_stopped old new job watching status did =
     record { comes = Err status; did = then_stops old new status did; status_is = refl }
 
 -- the end is not come to
@@ -188,12 +173,13 @@ behind_run job view run =
     Then (Reports view p) (λ shown.
     Gives (end_status run.end)))
 
-pub told_reported : (old mid new : Outside) (job : Job) (view : View) (guest : Program) (run inside : RunEnd)
-    → run ≡ inside → Did (LoadsAndRuns (parts_asked job.watching) job) old (Ok (guest, run)) mid
+pub told_reported : (old mid new : Outside) (job : Job) (positions : Positions) (view : View) (guest : Program)
+    (run inside : RunEnd) → run ≡ inside
+    → Did (LoadsAndRuns (parts_asked (watching_at positions)) job) old (Ok (guest, run)) mid
     → Did (behind_run job view run) mid (Ok (end_status run.end)) new
-    → Did (DoesReport job view) old (Ok (end_status inside.end)) new
-told_reported old mid new job view guest run inside same ran behind =
-    subst (λ (r : RunEnd). Did (DoesReport job view) old (Ok (end_status r.end)) new) same
+    → Did (DoesReport job positions view) old (Ok (end_status inside.end)) new
+told_reported old mid new job positions view guest run inside same ran behind =
+    subst (λ (r : RunEnd). Did (DoesReport job positions view) old (Ok (end_status r.end)) new) same
     (then_goes old mid new (guest, run) (Ok (end_status run.end)) ran behind)
 
 -- its status is the one that it came to

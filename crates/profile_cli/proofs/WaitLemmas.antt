@@ -60,7 +60,7 @@ use Rattle.profile_cli.specs.inner.WaitStages.{CanReport, IsTextOf, PutsWaits, s
 use Rattle.profile_cli.proofs.OutsideLemmas.{holds_nothing}
 use Rattle.profile_cli.proofs.PastRunLemmas.{accepted_is}
 use Rattle.profile_cli.proofs.WatchLemmas.{WritesPlain}
-use Rattle.profile_cli.proofs.WorkLemmas.{as_watching, by_loading, fits_all, guest_with, met_running, others}
+use Rattle.profile_cli.proofs.WorkLemmas.{by_loading, fits_all, guest_with, met_running, others}
 use Rattle.profile_cli.proofs.WorkLemmas.{whole_refused}
 use Rattle.byte_text.specs.Memory.{memory}
 
@@ -319,22 +319,19 @@ can_report old mid job run first last within fresh ran =
       sums = sums_of_run guest can w.trace w.stop w.is;
     }
 
-module _ (old mid new : Outside) (given : Job) (run : RunEnd) (first last : WaitState) (fresh : first.books ≡ keeping.nothing)
+module _ (old mid new : Outside) (job : Job) (run : RunEnd) (first last : WaitState) (fresh : first.books ≡ keeping.nothing)
     (result : Result (Unit {0}) Status) (early : old.put_faults ≤ mid.put_faults)
     (loads : new.load_faults ≡ mid.load_faults) (out : new.out ≡ mid.out) (err : new.err ≡ mid.err) where
-  abbrev asked : Job
-  asked = record given { watching = Waits }
-
-  works : IsJob asked → RanToEnd plain_parts (HasWatched watching first last) old asked run mid
-      → PutsWaits last.books asked mid.files mid.put_faults new.put_faults result new.files
-      → Works old (Run asked) (report_status (end_status run.end) result) new
-  works within ran puts = record {
+  pub Works-waits : IsJob job → RanToEnd plain_parts (HasWatched watching first last) old job run mid
+      → PutsWaits last.books job mid.files mid.put_faults new.put_faults result new.files
+      → Works old (Run job Waits) (report_status (end_status run.end) result) new
+  Works-waits within ran puts = record {
     course = met;
     met = (
       record {
-        program = subst (λ n. IsLoad old.files (program_of asked.args) program_limit old.load_faults n (Ok ran.program))
+        program = subst (λ n. IsLoad old.files (program_of job.args) program_limit old.load_faults n (Ok ran.program))
             (sym loads) ran.load;
-        input = subst (λ n. IsLoadIf old.files asked.input input_limit old.load_faults n (Ok ran.input)) (sym loads)
+        input = subst (λ n. IsLoadIf old.files job.input input_limit old.load_faults n (Ok ran.input)) (sym loads)
             ran.fed;
         run = (ran.symbols, ran.sound, (ran.fits, ran.whole));
       },
@@ -346,57 +343,45 @@ module _ (old mid new : Outside) (given : Job) (run : RunEnd) (first last : Wait
     leaves = subst (λ (o : Outcome). Leaves old o.output new) (sym comes)
         (left_then old mid new ran.output
         (whole_refused guest run ran.output ran.whole)
-        ran.leaves out err asked.base (end_status run.end) puts.waits gate.stops refl puts.holds);
+        ran.leaves out err job.base (end_status run.end) puts.waits gate.stops refl puts.holds);
   }
     where
       guest : Program
-      guest = guest_with asked ran.program ran.input ran.syms
+      guest = guest_with job ran.program ran.input ran.syms
 
       gate : Gate
-      gate = waits_gate asked.base puts.waits
+      gate = waits_gate job.base puts.waits
 
       met : Course
       met = record (met_running ran.program ran.input (record { syms = ran.syms; stop = Ok run; output = ran.output }))
           { waits = puts.waits }
 
-      comes : gates_outcome (reading met ++ loading asked met ++ run_gate asked met.run ∷ gate ∷ []) (end_status run.end)
+      comes : gates_outcome (reading met ++ loading job met ++ run_gate job met.run ∷ gate ∷ []) (end_status run.end)
           ≡ at_gate None ran.output (gates_outcome (gate ∷ []) (end_status run.end))
       comes =
-          by_loading asked met None (gate ∷ []) (end_status run.end) refl
-          (ap (λ s. or_next s (others asked ran.program (Ok ran.input))) ran.accepted
-          ∙ fits_all asked ran.program ran.input ran.syms ran.fits)
+          by_loading job met None (gate ∷ []) (end_status run.end) refl
+          (ap (λ s. or_next s (others job ran.program (Ok ran.input))) ran.accepted
+          ∙ fits_all job ran.program ran.input ran.syms ran.fits)
 
-      known : (waited : Option WaitsOutcome) → IfSome waited (λ w. IsTextOf last.books asked w.text)
+      known : (waited : Option WaitsOutcome) → IfSome waited (λ w. IsTextOf last.books job w.text)
           → IfSome waited (λ w. IsPut mid.put_faults new.put_faults w.put) → IfSome waited (IsWaited old guest new)
       known None text put_is = tt
       known (Some w) text put_is = record {
         text = λ xs stop is.
             text (trace.steps_of xs)
-            (kept_of_run guest (can_run old mid asked (HasWatched watching first last) run within ran) xs stop is first last
+            (kept_of_run guest (can_run old mid job (HasWatched watching first last) run within ran) xs stop is first last
             fresh (ran.so xs stop is));
         put = put_since old.put_faults mid.put_faults new.put_faults w.put early put_is;
       }
-
-pub Works-waits : (old mid new : Outside) (job : Job) (run : RunEnd) (first last : WaitState)
-    (result : Result (Unit {0}) Status) → job.watching ≡ Waits → IsJob job → first.books ≡ keeping.nothing
-    → RanToEnd plain_parts (HasWatched watching first last) old job run mid
-    → PutsWaits last.books job mid.files mid.put_faults new.put_faults result new.files
-    → old.put_faults ≤ mid.put_faults → new.load_faults ≡ mid.load_faults → new.out ≡ mid.out → new.err ≡ mid.err
-    → Works old (Run job) (report_status (end_status run.end) result) new
-Works-waits old mid new job run first last result is within fresh ran puts early loads out err =
-    as_watching Waits job is
-    (λ j. IsJob j → RanToEnd plain_parts (HasWatched watching first last) old j run mid
-    → PutsWaits last.books j mid.files mid.put_faults new.put_faults result new.files
-    → Works old (Run j) (report_status (end_status run.end) result) new)
-    (works old mid new job run first last fresh result early loads out err) within ran puts
 
 -- ---- the stages of the code
 
 -- a stage stopped the work
 pub Works-exit : (old new : Outside) (job : Job) (status : Status) (result : Result End Status)
-    → IsErrAnd result (λ s. s ≡ status) → Works old (Run job) status new → Works old (Run job) (final_status (end_result result)) new
+    → IsErrAnd result (λ s. s ≡ status) → Works old (Run job Waits) status new
+    → Works old (Run job Waits) (final_status (end_result result)) new
 Works-exit old new job status (Ok end) none works = absurd none
-Works-exit old new job status (Err s) is works = subst (λ t. Works old (Run job) t new) (sym is) works
+Works-exit old new job status (Err s) is works = subst (λ t. Works old (Run job Waits) t new) (sym is) works
 
 -- a watch of waits writes plain parts
 pub waits_write : WritesPlain watching
@@ -404,6 +389,6 @@ waits_write = record { text = λ w head rows syms. refl }
 
 -- how it ended, by the fields of what the run answered
 pub Works-ended_run : (old new : Outside) (job : Job) (run inside : RunEnd) → run ≡ inside
-    → Works old (Run job) (end_status run.end) new → Works old (Run job) (end_status inside.end) new
+    → Works old (Run job Waits) (end_status run.end) new → Works old (Run job Waits) (end_status inside.end) new
 Works-ended_run old new job run inside same works =
-    subst (λ (r : RunEnd). Works old (Run job) (end_status r.end) new) same works
+    subst (λ (r : RunEnd). Works old (Run job Waits) (end_status r.end) new) same works

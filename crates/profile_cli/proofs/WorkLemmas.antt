@@ -18,7 +18,7 @@ use Rattle.profile_run.specs.declared.run_fault.RunFault.TheVariants as fault
 use Rattle.command_status.specs.Ends.{end_status}
 use Rattle.command_status.specs.declared.status.Status.{Status}
 use Rattle.command_status.specs.declared.status.Status.TheVariants as wanted
-use Rattle.command_words.specs.Request.{Request, Job, Run, Usage, View, Watching}
+use Rattle.command_words.specs.Request.{Request, Job, Positions, Run, Usage, View, Watching, watching_at}
 use Rattle.command_words.specs.Within.{IsBetween, IsWithin}
 use Rattle.command_words.specs.Request as words
 use Rattle.profile_files.specs.Loads.{IsLoad}
@@ -450,10 +450,10 @@ unwaited old new job met None = tt
 unwaited old new job met (Some ran) = tt
 
 -- it stopped before the end of the run
-pub Works-stopped_run : (old new : Outside) (job : Job) (status : Status)
-    → StopsBefore (parts_asked job.watching) old job status new → Works old (Run job) status new
-Works-stopped_run old new job status stops =
-    let comes = stops.comes (watch_gates job.watching job.base None) (last_status job stops.met.run) in record {
+pub Works-stopped_run : (old new : Outside) (job : Job) (watching : Watching) (status : Status)
+    → StopsBefore (parts_asked watching) old job status new → Works old (Run job watching) status new
+Works-stopped_run old new job watching status stops =
+    let comes = stops.comes (watch_gates watching job.base None) (last_status job stops.met.run) in record {
       course = unwatched stops.met;
       met = (
         record { program = stops.is.program; input = stops.is.input; run = stops.is.run },
@@ -480,9 +480,10 @@ unreported old new job view met (Some ran) = record {
 }
 
 -- it stopped before the end of the run
-pub Works-stopped_report : (old new : Outside) (job : Job) (view : View) (status : Status)
-    → StopsBefore (parts_asked job.watching) old job status new → Works old (words.Report job view) status new
-Works-stopped_report old new job view status stops =
+pub Works-stopped_report : (old new : Outside) (job : Job) (positions : Positions) (view : View) (status : Status)
+    → StopsBefore (parts_asked (watching_at positions)) old job status new
+    → Works old (words.Report job positions view) status new
+Works-stopped_report old new job positions view status stops =
     let comes = stops.comes (reporting_own (Err (read.OutOfMemory memory)) None) (last_status job stops.met.run) in record {
       course = unread stops.met;
       met = (
@@ -516,19 +517,14 @@ pub whole_refused : {writing : Writing} (guest : Program) (run : RunEnd) (output
     → IsWhole writing guest run output → output.refused ≡ None
 whole_refused guest run output is = ap (λ (o : Output). o.refused) is.output
 
--- a job that watches so
-pub as_watching : (w : Watching) (job : Job) → job.watching ≡ w → (P : Job → Type 0) → P (record job { watching = w })
-    → P job
-as_watching w job is P known = subst P (ap (λ v. record job { watching = v }) (sym is)) known
-
 -- what puts nothing behind the last part; how it ended, by the fields of what the run answered
-pub Works-run_as : (old new : Outside) (job : Job) (run inside : RunEnd) (status : Status)
-    → watch_gates job.watching job.base None ≡ [] → status ≡ end_status inside.end → inside ≡ run
-    → RanToEnd (parts_asked job.watching) IsAny old job run new → Works old (Run job) status new
-Works-run_as old new job run inside status quiet is same ran =
-    let comes = past_run old new job run ran (watch_gates job.watching job.base None) (end_status run.end)
+pub Works-run_as : (old new : Outside) (job : Job) (watching : Watching) (run inside : RunEnd) (status : Status)
+    → watch_gates watching job.base None ≡ [] → status ≡ end_status inside.end → inside ≡ run
+    → RanToEnd (parts_asked watching) IsAny old job run new → Works old (Run job watching) status new
+Works-run_as old new job watching run inside status quiet is same ran =
+    let comes = past_run old new job run ran (watch_gates watching job.base None) (end_status run.end)
     ∙ ap (λ gates. at_gate None ran.output (gates_outcome gates (end_status run.end))) quiet in
-    subst (λ s. Works old (Run job) s new) (sym (is ∙ ap (λ (r : RunEnd). end_status r.end) same)) (record {
+    subst (λ s. Works old (Run job watching) s new) (sym (is ∙ ap (λ (r : RunEnd). end_status r.end) same)) (record {
       course = met_to_end old new job run ran;
       met = (
         record { program = ran.load; input = ran.fed; run = (ran.symbols, ran.sound, (ran.fits, ran.whole)) },
@@ -539,13 +535,6 @@ Works-run_as old new job run inside status quiet is same ran =
           (Leaves-and_nothing old new ran.output
           (whole_refused (guest_with job ran.program ran.input ran.syms) run ran.output ran.whole) ran.leaves);
     })
-
--- it stopped
-pub Works-stopped_as : (w : Watching) (old new : Outside) (job : Job) (status : Status) → job.watching ≡ w
-    → StopsBefore (parts_asked w) old job status new → Works old (Run job) status new
-Works-stopped_as w old new job status watches stops =
-    Works-stopped_run old new job status
-    (subst (λ v. StopsBefore (parts_asked v) old job status new) (sym watches) stops)
 
 -- ---- no command
 
@@ -560,11 +549,11 @@ Works-unread old asked = by asked
     unread = record no_course { words_read = false }
 
     by : (a : Request) → Works old a (wanted.OutOfMemory memory) old
-    by (Run job) =
-        Works-stopped_run old old job (wanted.OutOfMemory memory)
+    by (Run job watching) =
+        Works-stopped_run old old job watching (wanted.OutOfMemory memory)
         (Stops-wanting old old job (wanted.OutOfMemory memory) refl (quiet old))
-    by (words.Report job view) =
-        Works-stopped_report old old job view (wanted.OutOfMemory memory)
+    by (words.Report job positions view) =
+        Works-stopped_report old old job positions view (wanted.OutOfMemory memory)
         (Stops-wanting old old job (wanted.OutOfMemory memory) refl (quiet old))
     by (words.Annotate names view) = record {
       course = unread;

@@ -33,5 +33,5 @@ FoldBack syms steps =
 -- folded they are the plain rows.
 abbrev pub IsAddresses : Outside → Request → Status → Outside → Type 0
 IsAddresses =
-    OfRuns (λ job guest trace. job.watching ≡ Addresses
+    OfRuns (λ job watching guest trace. watching ≡ Addresses
     → MayFold guest.syms (steps_of trace) × FoldBack guest.syms (steps_of trace))

@@ -12,8 +12,9 @@ use Rattle.command_status.specs.Ends.{end_status}
 use Rattle.command_status.specs.Lines.{message_of}
 use Rattle.command_status.specs.Numbers.{is_short}
 use Rattle.command_status.specs.declared.status.Status.{Status}
-use Rattle.command_words.specs.Request.{Request, Job, Report, View}
+use Rattle.command_words.specs.Request.{Request, Job, Positions, Report, View}
 use Rattle.profile_cli.specs.HasRun.{RunOf, files_put}
+use Rattle.profile_cli.specs.Watching.{files_at}
 use Rattle.profile_cli.specs.Headline.{ReportOn}
 use Rattle.command_steps.specs.Loading.{input_limit}
 use Rattle.profile_cli.specs.Order.{program_limit}
@@ -48,7 +49,8 @@ AreWrittenThen pieces text writes =
 -- These are all the calls of a report: PROG was loaded, and its input; the files of the guest's trace were put and
 -- loaded again; and the source texts were loaded. To the one sink the guest's pieces were written and then the report
 -- on its trace, to the other its pieces and then the line on its end.
-pub record IsReportByCalls (job : Job) (view : View) (status : Status) (log : Log) : Type 0 where
+pub record IsReportByCalls (job : Job) (positions : Positions) (view : View) (status : Status)
+    (log : Log) : Type 0 where
   pub program : List ℕ
   pub input : List ℕ
   pub feeding : List Call
@@ -59,7 +61,8 @@ pub record IsReportByCalls (job : Job) (view : View) (status : Status) (log : Lo
   pub sources : AreShown view.auto report_on.report.profile report_on.texts
   pub calls : log.calls
       ≡ Loaded (program_of job.args) program_limit (Ok program)
-      ∷ feeding ++ puts_of (files_put run) ++ loads_back (files_put run) ++ loads_of report_on.texts
+      ∷ feeding ++ puts_of (files_put (files_at positions) run) ++ loads_back (files_put (files_at positions) run)
+      ++ loads_of report_on.texts
   pub out : AreWrittenThen (pieces 1 run.trace) report_on.text log.out
   pub err : AreWrittenThen (pieces 2 run.trace) (message_of status) log.err
 
@@ -67,5 +70,5 @@ pub record IsReportByCalls (job : Job) (view : View) (status : Status) (log : Lo
 -- unless the work stopped short.
 abbrev pub IsHeadlineByCalls : Outside → Request → Status → Outside → Type 0
 IsHeadlineByCalls old asked status new =
-    (job : Job) (view : View) → asked ≡ Report job view → is_short status ≡ false
-    → (log : Log) × Tells old log new × (GivesBack log.calls → IsReportByCalls job view status log)
+    (job : Job) (positions : Positions) (view : View) → asked ≡ Report job positions view → is_short status ≡ false
+    → (log : Log) × Tells old log new × (GivesBack log.calls → IsReportByCalls job positions view status log)

@@ -16,7 +16,7 @@ use Rattle.command_status.specs.Lines.{message_of}
 use Rattle.command_status.specs.declared.status.Status.{Status}
 use Rattle.command_status.specs.declared.status.Status.TheVariants.{Done, OutOfMemory, Usage}
 use Rattle.command_words.specs.Request as words
-use Rattle.command_words.specs.Request.{Request, Job, View}
+use Rattle.command_words.specs.Request.{Request, Job, Positions, View, Watching, watching_at}
 use Rattle.profile_cli.specs.Blame.{IsToBlame}
 use Rattle.profile_cli.specs.Demo.{demo_job, figures_of}
 use Rattle.command_steps.specs.Saying.{after_line}
@@ -29,16 +29,16 @@ use Rattle.command_steps.specs.Summary.{WritesSummary}
 -- ---- the commands, each of which comes to its status
 
 -- `run`: the guest runs, and the report on waiting is put behind its parts where it is asked for.
-abbrev pub DoesRun : Job → Log → Result Status Status → Type 0
-DoesRun job =
-    Then (LoadsAndRuns (parts_asked job.watching) job) (λ ran.
-    Then (PutsWaits job.watching ran.0) (λ put.
+abbrev pub DoesRun : Job → Watching → Log → Result Status Status → Type 0
+DoesRun job watching =
+    Then (LoadsAndRuns (parts_asked watching) job) (λ ran.
+    Then (PutsWaits watching ran.0) (λ put.
     Gives (end_status ran.1.end)))
 
 -- `report`: the guest runs, its own parts are loaded in the order in which they were put, and they are reported.
-abbrev pub DoesReport : Job → View → Log → Result Status Status → Type 0
-DoesReport job view =
-    Then (LoadsAndRuns (parts_asked job.watching) job) (λ ran.
+abbrev pub DoesReport : Job → Positions → View → Log → Result Status Status → Type 0
+DoesReport job positions view =
+    Then (LoadsAndRuns (parts_asked (watching_at positions)) job) (λ ran.
     Then (ReadsAll (no_rows (events_shown job.branches event_names)) (parts_wanted job.base ran.1.parts)) (λ p.
     Then (Reports view p) (λ shown.
     Gives (end_status ran.1.end))))
@@ -67,8 +67,8 @@ DoesDemo size =
     SumsUpIf size (length file) ran.1 ran.1.end))
 
 abbrev pub DoesAsked : Request → Log → Result Status Status → Type 0
-DoesAsked (words.Run job) = DoesRun job
-DoesAsked (words.Report job view) = DoesReport job view
+DoesAsked (words.Run job watching) = DoesRun job watching
+DoesAsked (words.Report job positions view) = DoesReport job positions view
 DoesAsked (words.Annotate names view) = DoesAnnotate names view
 DoesAsked (words.Demo size) = DoesDemo size
 DoesAsked words.Usage = Gives Usage

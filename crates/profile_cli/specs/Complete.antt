@@ -9,7 +9,7 @@ use Rattle.command_status.specs.Lines.{message_of}
 use Rattle.command_status.specs.declared.status.Status.{Status}
 use Rattle.command_status.specs.declared.status.Status.TheVariants.{Usage, OutOfMemory}
 use Rattle.command_words.specs.Request as words
-use Rattle.command_words.specs.Request.{Request, Job}
+use Rattle.command_words.specs.Request.{Request, Job, Watching}
 use Rattle.profile_cli.specs.Course.{Course, no_course}
 use Rattle.profile_cli.specs.ExactDemo.{IsExactDemo}
 use Rattle.command_steps.specs.Gates.{first_stop}
@@ -39,20 +39,21 @@ abbrev pub line : Status → Output
 line status = record nothing { err = message_of status }
 
 -- The guest ran to its end, and everything stands: its files, its bytes, and the line behind them.
-pub record Ends (old : Outside) (job : Job) (met : Course) (status : Status) (new : Outside) : Type 0 where
+pub record Ends (old : Outside) (job : Job) (watching : Watching) (met : Course) (status : Status)
+    (new : Outside) : Type 0 where
   pub run : RunOf job (bytes_of met.program) (bytes_of met.input)
   pub status_is : status ≡ end_status run.stop.end
-  pub leaves : Leaves old (and_then (output_asked job.watching run.guest run.trace run.stop) (line status)) new
+  pub leaves : Leaves old (and_then (output_asked watching run.guest run.trace run.stop) (line status)) new
 
 -- The first gate of the loading that stops gives the status, and else the guest's end does, where no put and no write
 -- failed; and then the report on it is exact. A demonstration has no such gate, and is exact then.
 abbrev pub IsCertain : Outside → Files → Request → Status → Outside → Type 0
-IsCertain old files (words.Run job) status new =
+IsCertain old files (words.Run job watching) status new =
     Decides (first_stop (loading job (faultless_course files job)))
-    (IsCalm old new → Ends old job (faultless_course files job) status new) status
-IsCertain old files (words.Report job view) status new =
+    (IsCalm old new → Ends old job watching (faultless_course files job) status new) status
+IsCertain old files (words.Report job positions view) status new =
     Decides (first_stop (loading job (faultless_course files job)))
-    (IsCalm old new → IsExactReport old job view status new) status
+    (IsCalm old new → IsExactReport old job positions view status new) status
 IsCertain old files (words.Annotate names view) status new = IsCertainReport old files names view status new
 IsCertain old files (words.Demo size) status new =
     IsCalm old new → IsExactDemo old size status (message_of status) new

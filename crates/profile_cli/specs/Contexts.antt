@@ -33,5 +33,5 @@ FoldBack callers syms steps =
 -- can be folded, and folded they are the plain rows.
 abbrev pub IsContexts : Outside → Request → Status → Outside → Type 0
 IsContexts =
-    OfRuns (λ job guest trace. (callers : ℕ) → job.watching ≡ Contexts callers
+    OfRuns (λ job watching guest trace. (callers : ℕ) → watching ≡ Contexts callers
     → MayFold callers guest.syms (steps_of trace) × FoldBack callers guest.syms (steps_of trace))

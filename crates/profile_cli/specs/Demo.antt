@@ -15,7 +15,7 @@ use Rattle.profile_run.specs.Program.{Program}
 use Rattle.profile_run.specs.Parts.{plain_parts}
 use Rattle.profile_run.specs.Runs.{RunEnd, Runs}
 use Rattle.profile_run.specs.declared.run_fault.RunFault.{RunFault}
-use Rattle.command_words.specs.Request.{Job, Nothing, job}
+use Rattle.command_words.specs.Request.{Job, job}
 use Rattle.profile_cli.specs.Course.{Course, RunOutcome}
 use Rattle.profile_cli.specs.OwnReport.{parts_to_read}
 use Rattle.profile_cli.specs.Program.{IsMapOf, guest_of}
@@ -24,7 +24,7 @@ use Rattle.command_steps.specs.Summary.{IsSummed}
 
 -- its run has no arguments and no input, and each option's default but for what the names of its files begin with
 abbrev pub demo_job : Job
-demo_job = record (job Nothing (λ _. []) (codes "demo" ∷ [])) { base = codes "demo.out" }
+demo_job = record (job (λ _. []) (codes "demo" ∷ [])) { base = codes "demo.out" }
 
 -- the guest of the run, from the bytes of the program's file
 abbrev pub demo_guest : List ℕ → SymbolMap → Program

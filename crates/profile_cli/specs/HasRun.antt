@@ -10,7 +10,7 @@ use Rattle.profile_run.specs.Trace.{IsTraceOf, Stop, RunStep}
 use Rattle.command_status.specs.Ends.{end_status}
 use Rattle.command_status.specs.Numbers.{is_short}
 use Rattle.command_status.specs.declared.status.Status.{Status}
-use Rattle.command_words.specs.Request.{Request, Job, Report, Run, View}
+use Rattle.command_words.specs.Request.{Request, Job, Positions, Report, Run, View, Watching, watching_at}
 use Rattle.command_steps.specs.Loading.{IsLoadIf, input_limit}
 use Rattle.profile_cli.specs.Order.{program_limit}
 use Rattle.profile_cli.specs.Program.{IsMapOf, guest_of}
@@ -27,40 +27,46 @@ pub record RunOf (job : Job) (program input : List ℕ) : Type 0 where
   pub stop : Stop
   pub is : IsTraceOf guest trace stop
 
--- its files, in the order in which they are put
-abbrev pub files_put : {job : Job} {program input : List ℕ} → RunOf job program input → List Named
-files_put {job} run = files_asked job.watching run.guest run.trace run.stop
+-- which files a run puts, in their order
+abbrev pub RunFiles : Type 0
+RunFiles = Program → List RunStep → Stop → List Named
+
+abbrev pub files_put : {job : Job} {program input : List ℕ} → RunFiles → RunOf job program input → List Named
+files_put files run = files run.guest run.trace run.stop
 
 -- The job's program was loaded, and its input; its guest ran to its end, and the status is that of the end. The folder
--- holds its files besides, and nothing else has changed.
-pub record HasRun (old : Outside) (job : Job) (status : Status) (new : Outside) : Type 0 where
+-- holds these files of the run besides, and nothing else has changed.
+pub record HasRun (old : Outside) (job : Job) (put : RunFiles) (status : Status) (new : Outside) : Type 0 where
   pub program : List ℕ
   pub loaded : IsLoad old.files (program_of job.args) program_limit old.load_faults new.load_faults (Ok program)
   pub input : List ℕ
   pub fed : IsLoadIf old.files job.input input_limit old.load_faults new.load_faults (Ok input)
   pub run : RunOf job program input
   pub status_is : status ≡ end_status run.stop.end
-  pub files : new.files ≡ option_map (with_files (files_put run)) old.files
+  pub files : new.files ≡ option_map (with_files (files_put put run)) old.files
 
 -- ---- what is so of every run
 
 -- `report` over a folder that tells its contents
-pub record AsksToReport (old : Outside) (asked : Request) (job : Job) : Type 0 where
+pub record AsksToReport (old : Outside) (asked : Request) (job : Job) (watching : Watching) : Type 0 where
+  pub positions : Positions
   pub view : View
-  pub asked_is : asked ≡ Report job view
+  pub asked_is : asked ≡ Report job positions view
+  pub watching_is : watching ≡ watching_at positions
   pub contents : Files
   pub contents_are : old.files ≡ Some contents
 
 -- the words ask for `run`, or for that
-abbrev pub AsksToRun : Outside → Request → Job → Type 0
-AsksToRun old asked job = (asked ≡ Run job) ⊎ AsksToReport old asked job
+abbrev pub AsksToRun : Outside → Request → Job → Watching → Type 0
+AsksToRun old asked job watching = (asked ≡ Run job watching) ⊎ AsksToReport old asked job watching
 
-pub record RanSo (IsSo : Program → List RunStep → Type 0) (old : Outside) (job : Job) (status : Status)
-    (new : Outside) : Type 0 where
-  pub run : HasRun old job status new
+pub record RanSo (IsSo : Program → List RunStep → Type 0) (old : Outside) (job : Job) (watching : Watching)
+    (status : Status) (new : Outside) : Type 0 where
+  pub run : HasRun old job (files_asked watching) status new
   pub so : IsSo run.run.guest run.run.trace
 
 -- This is so of the job's run, unless the work stopped short.
-abbrev pub OfRuns : (Job → Program → List RunStep → Type 0) → Outside → Request → Status → Outside → Type 0
+abbrev pub OfRuns : (Job → Watching → Program → List RunStep → Type 0) → Outside → Request → Status → Outside → Type 0
 OfRuns IsSo old asked status new =
-    (job : Job) → AsksToRun old asked job → is_short status ≡ false → RanSo (IsSo job) old job status new
+    (job : Job) (watching : Watching) → AsksToRun old asked job watching → is_short status ≡ false
+    → RanSo (IsSo job watching) old job watching status new

@@ -3,7 +3,7 @@ use Rattle.std.specs.Prelude.{◌≡◌, ℕ, ◌++◌, false, List, Some}
 use Rattle.outside.specs.Files.{Files}
 use Rattle.outside.specs.Outside.{Outside}
 use Rattle.outside.specs.Write.{taken_more}
-use Rattle.command_words.specs.Request.{Request, Job, Report, View}
+use Rattle.command_words.specs.Request.{Request, Job, Positions, Report, View}
 use Rattle.command_status.specs.Lines.{message_of}
 use Rattle.command_status.specs.Numbers.{is_short}
 use Rattle.command_status.specs.declared.status.Status.{Status}
@@ -14,6 +14,7 @@ use Rattle.report_laws.specs.Reports.{IsReportOfRun}
 use Rattle.command_steps.specs.Annotate.{AreTextsFor, IsSortPlace, report_options}
 use Rattle.profile_cli.specs.Counts.{CountEvents}
 use Rattle.profile_cli.specs.HasRun.{HasRun}
+use Rattle.profile_cli.specs.Watching.{files_at}
 
 -- A report on a trace: each inclusive cost, and the cost of each pair of functions of different groups, counts every
 -- event once; every cost of functions by themselves and of lines, and the totals, the events there; and the number of
@@ -28,8 +29,9 @@ pub record ReportOn (guest : Program) (trace : List RunStep) (view : View) : Typ
 
 -- The guest ran to its end, and its files are put. `out` has taken the guest's bytes and then the report on its trace,
 -- and `err` the guest's bytes and then the line on its end.
-pub record IsExactReport (old : Outside) (job : Job) (view : View) (status : Status) (new : Outside) : Type 0 where
-  pub run : HasRun old job status new
+pub record IsExactReport (old : Outside) (job : Job) (positions : Positions) (view : View) (status : Status)
+    (new : Outside) : Type 0 where
+  pub run : HasRun old job (files_at positions) status new
   pub report_on : ReportOn run.run.guest run.run.trace view
   pub sources : AreTextsFor view.auto new.files old.load_faults new.load_faults report_on.report.profile report_on.texts
   pub out : new.out.taken ≡ taken_more old.out.taken (sent_bytes 1 run.run.trace ++ report_on.text)
@@ -39,5 +41,5 @@ pub record IsExactReport (old : Outside) (job : Job) (view : View) (status : Sta
 -- short.
 abbrev pub IsHeadline : Outside → Request → Status → Outside → Type 0
 IsHeadline old asked status new =
-    (files : Files) (job : Job) (view : View) → asked ≡ Report job view → old.files ≡ Some files
-    → is_short status ≡ false → IsExactReport old job view status new
+    (files : Files) (job : Job) (positions : Positions) (view : View) → asked ≡ Report job positions view
+    → old.files ≡ Some files → is_short status ≡ false → IsExactReport old job positions view status new

@@ -117,11 +117,11 @@ behind_demo size met (Some ran) = behind_stop size met ran.stop
 -- The work of each command. The end of the guest is the last status, and stops nothing: `report` does what `run` does,
 -- and then reports on its own parts.
 abbrev pub work : Request → Course → Work
-work (words.Run job) met = record {
-  gates = reading met ++ loading job met ++ run_gate job met.run ∷ watch_gates job.watching job.base met.waits;
+work (words.Run job watching) met = record {
+  gates = reading met ++ loading job met ++ run_gate job met.run ∷ watch_gates watching job.base met.waits;
   last = last_status job met.run;
 }
-work (words.Report job view) met = record {
+work (words.Report job positions view) met = record {
   gates = reading met ++ loading job met ++ run_gate job met.run ∷ reporting_own met.profile met.report;
   last = last_status job met.run;
 }

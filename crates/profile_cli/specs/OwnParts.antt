@@ -6,7 +6,7 @@ use Rattle.outside.specs.declared.folder.LoadError.TheVariants as load
 use Rattle.profile_files.specs.Loads.{IsLoad}
 use Rattle.command_status.specs.declared.status.Status.{Status}
 use Rattle.command_status.specs.declared.status.Status.TheVariants as status
-use Rattle.command_words.specs.Request.{Request, Demo, Job, Report, View}
+use Rattle.command_words.specs.Request.{Request, Demo, Job, Positions, Report, View}
 use Rattle.command_steps.specs.Loading.{input_limit}
 use Rattle.profile_cli.specs.Order.{program_limit}
 use Rattle.profile_cli.specs.Words.{program_of}
@@ -33,7 +33,7 @@ IsOfJob old job new name len =
 -- Where the folder tells its contents, what was put can be read: a file that is too long for `report` is of its job, and
 -- none is for `demo`.
 pub record IsReadable (old : Outside) (asked : Request) (status : Status) (new : Outside) : Type 0 where
-  pub report : (files : Files) (job : Job) (view : View) → asked ≡ Report job view → old.files ≡ Some files
-      → IsNotOfParts (IsOfJob old job new) status
+  pub report : (files : Files) (job : Job) (positions : Positions) (view : View) → asked ≡ Report job positions view
+      → old.files ≡ Some files → IsNotOfParts (IsOfJob old job new) status
   pub demo : (files : Files) (size : ℕ) → asked ≡ Demo size → old.files ≡ Some files
       → IsNotOfParts (λ name len. ⊥) status

@@ -22,4 +22,4 @@ AreOwnRows guest trace =
     (own_costed_events thread segment)
 
 abbrev pub IsOwnRows : Outside → Request → Status → Outside → Type 0
-IsOwnRows = OfRuns (λ job. AreOwnRows)
+IsOwnRows = OfRuns (λ job watching. AreOwnRows)

@@ -33,4 +33,4 @@ pub record IsReply (old : Outside) (asked : Request) (status : Status) (new : Ou
   pub contexts : IsContexts old asked status new
   pub addresses : IsAddresses old asked status new
   -- a run has no more steps than were asked for
-  pub budget : OfRuns (λ job guest trace. length trace ≤ job.budget) old asked status new
+  pub budget : OfRuns (λ job watching guest trace. length trace ≤ job.budget) old asked status new

@@ -9,7 +9,7 @@ use Rattle.profile_run.specs.Parts.{Writing}
 use Rattle.profile_run.specs.Runs.{Runs}
 use Rattle.command_status.specs.declared.status.Status.{Status}
 use Rattle.command_words.specs.Request as words
-use Rattle.command_words.specs.Request.{Request, Job}
+use Rattle.command_words.specs.Request.{Request, Job, watching_at}
 use Rattle.profile_files.specs.Loads.{IsLoad}
 use Rattle.outside.specs.Load.{bytes_of}
 use Rattle.command_steps.specs.Annotate.{IsAnnotated}
@@ -47,10 +47,10 @@ IsWaitedIn old job met new ran = IfSome met.waits (IsWaited old (guest_met job m
 
 -- What each command met may be met over this outside. After a faulty command line nothing has been touched.
 abbrev pub Met : Outside → Request → Course → Outside → Type 0
-Met old (words.Run job) met new =
-    IsRun (parts_asked job.watching) old job met new × IfSome met.run (IsWaitedIn old job met new)
-Met old (words.Report job view) met new =
-    IsRun (parts_asked job.watching) old job met new × IfSome met.run (IsReported old job view met new)
+Met old (words.Run job watching) met new =
+    IsRun (parts_asked watching) old job met new × IfSome met.run (IsWaitedIn old job met new)
+Met old (words.Report job positions view) met new =
+    IsRun (parts_asked (watching_at positions)) old job met new × IfSome met.run (IsReported old job view met new)
 Met old (words.Annotate names view) met new = IsAnnotated old names view met.profile met.report new
 Met old (words.Demo size) met new = IfSome met.run (IsDemoRan old size met new)
 Met old words.Usage met new = new ≡ old

@@ -10,4 +10,4 @@ use Rattle.profile_cli.specs.HasRun.{OfRuns}
 -- The files of the run are its parts, as without this report, and then the report on the waits of its trace
 -- (`files_asked`). No step that passes during a wait is one of the waiting thread.
 abbrev pub IsWaits : Outside → Request → Status → Outside → Type 0
-IsWaits = OfRuns (λ job guest trace. job.watching ≡ Waits → AreOfOthers (steps_of trace))
+IsWaits = OfRuns (λ job watching guest trace. watching ≡ Waits → AreOfOthers (steps_of trace))

@@ -14,7 +14,7 @@ use Rattle.wait_report.specs.Rows.{wait_rows}
 use Rattle.wait_report.specs.Texts.{waits_text}
 use Rattle.command_status.specs.declared.status.Status.{Status}
 use Rattle.command_status.specs.declared.status.Status.TheVariants.{OutOfMemory, PutFault}
-use Rattle.command_words.specs.Request.{Addresses, Contexts, Nothing, Waits, Watching}
+use Rattle.command_words.specs.Request.{AddressAndLine, Addresses, Contexts, Line, Nothing, Positions, Waits, Watching}
 use Rattle.run_laws.specs.Addresses.{addr_parts}
 use Rattle.run_laws.specs.Contexts.{ctx_parts}
 use Rattle.profile_cli.specs.Course.{WaitsOutcome}
@@ -41,13 +41,17 @@ waits_file guest trace = (
   waits_text (joined_texts guest.args) guest.options.branch (wait_rows (steps_of trace)),
 )
 
--- all files, in the order in which they are put
+-- the files of a run with such positions, in the order in which they are put
+abbrev pub files_at : Positions → Program → List RunStep → Stop → List Named
+files_at Line guest trace stop = (plain_parts guest).whole (steps_of trace) stop.tried
+files_at AddressAndLine guest trace stop = (addr_parts guest).whole (steps_of trace) stop.tried
+
+-- and those of a run that counts this besides
 abbrev pub files_asked : Watching → Program → List RunStep → Stop → List Named
-files_asked Nothing guest trace stop = (plain_parts guest).whole (steps_of trace) stop.tried
-files_asked Waits guest trace stop =
-    (plain_parts guest).whole (steps_of trace) stop.tried ++ waits_file guest trace ∷ []
-files_asked (Contexts callers) guest trace stop = (ctx_parts callers guest).whole (steps_of trace) stop.tried
-files_asked Addresses guest trace stop = (addr_parts guest).whole (steps_of trace) stop.tried
+files_asked Nothing = files_at Line
+files_asked Waits = λ guest trace stop. files_at Line guest trace stop ++ waits_file guest trace ∷ []
+files_asked (Contexts callers) = λ guest trace stop. (ctx_parts callers guest).whole (steps_of trace) stop.tried
+files_asked Addresses = files_at AddressAndLine
 
 -- all that a run puts out
 abbrev pub output_asked : Watching → Program → List RunStep → Stop → Output

@@ -36,27 +36,29 @@ use std::alloc::Global;
 pub fn run_command<F: Folder, O: Sink, E: Sink>(
     alloc: Global,
     job: &Job<'_>,
+    watching: Watching,
     folder: &mut F,
     out: &mut O,
     err: &mut E,
 ) -> Status
-    requires { IsJob (job_of job.now) }
+    requires within { IsJob (job_of job.now) }
+    requires callers { AreFew (watching_of watching) }
     ensures works { Works
         (outside_of F.Folder O.Sink E.Sink folder.old out.old err.old)
-        (Run (job_of job.now)) result
+        (Run (job_of job.now) (watching_of watching)) result
         (outside_of F.Folder O.Sink E.Sink folder.new out.new err.new) }
     ensures told { DidWork
         (outside_of F.Folder O.Sink E.Sink folder.old out.old err.old)
-        (Run (job_of job.now)) result
+        (Run (job_of job.now) (watching_of watching)) result
         (outside_of F.Folder O.Sink E.Sink folder.new out.new err.new) }
     ensures never_falls { E.faults err.old ≤ E.faults err.new }
 {
-    match job.watching {
+    match watching {
         Watching::Waits => match run_with_waits(alloc, job, folder, out, err) {
             Ok(end) => Status::from(end),
             Err(status) => status,
         },
-        _ => match run_parts(alloc, job, folder, out, err) {
+        _ => match run_parts(alloc, job, watching, folder, out, err) {
             Ok(run) => Status::from(run.end),
             Err(status) => status,
         },
@@ -68,12 +70,14 @@ pub fn run_command<F: Folder, O: Sink, E: Sink>(
 pub fn run_parts<F: Folder, O: Sink, E: Sink>(
     alloc: Global,
     job: &Job<'_>,
+    watching: Watching,
     folder: &mut F,
     out: &mut O,
     err: &mut E,
 ) -> Result<RunEnd, Status>
-    requires { IsJob (job_of job.now) }
-    ensures ran { RunsJob (parts_asked (job_of job.now).watching) IsAny
+    requires within { IsJob (job_of job.now) }
+    requires callers { AreFew (watching_of watching) }
+    ensures ran { RunsJob (parts_asked (watching_of watching)) IsAny
         (outside_of F.Folder O.Sink E.Sink folder.old out.old err.old)
         (job_of job.now) result
         (outside_of F.Folder O.Sink E.Sink folder.new out.new err.new) }
@@ -81,7 +85,7 @@ pub fn run_parts<F: Folder, O: Sink, E: Sink>(
     ensures out_faults_never_fall { O.faults out.old ≤ O.faults out.new }
     ensures err_faults_never_fall { E.faults err.old ≤ E.faults err.new }
 {
-    match watch_for(alloc, job.watching) {
+    match watch_for(alloc, watching) {
         Some(watch) => {
             let mut watch = watch;
             load_and_run(alloc, job, &mut watch, folder, out, err)
@@ -223,11 +227,11 @@ fn run_elf_by_address<F: Folder, O: Sink, E: Sink>(
     let syms = read_symbols(alloc, elf)?;
     let places = syms.try_clone(alloc)?;
     let texts = AddrTexts::new(alloc, places)?;
-    let told = syms.by_address();
+    let addresses = syms.by_address();
     let options = options_of(alloc, job)?;
     let mut watch = RunWatch::Addresses(texts);
     match run_watched(
-        alloc, elf, &told, &job.args, input, &options, &mut watch, folder, out, err,
+        alloc, elf, &addresses, &job.args, input, &options, &mut watch, folder, out, err,
     ) {
         Ok(end) => Ok(end),
         Err(fault) => Err(fault_status(alloc, job.base, fault)),

@@ -32,13 +32,12 @@ pub fn run_with_waits<F: Folder, O: Sink, E: Sink>(
     out: &mut O,
     err: &mut E,
 ) -> Result<End, Status>
-    requires within { IsJob (job_of job.now) }
-    requires waits { (job_of job.now).watching ≡ asked_waits }
+    requires { IsJob (job_of job.now) }
     ensures works { Works
         (outside_of F.Folder O.Sink E.Sink folder.old out.old err.old)
-        (Run (job_of job.now)) (final_status (end_result result))
+        (Run (job_of job.now) asked_waits) (final_status (end_result result))
         (outside_of F.Folder O.Sink E.Sink folder.new out.new err.new) }
-    ensures told { Did (DoesRun (job_of job.now))
+    ensures told { Did (DoesRun (job_of job.now) asked_waits)
         (outside_of F.Folder O.Sink E.Sink folder.old out.old err.old)
         (end_result result)
         (outside_of F.Folder O.Sink E.Sink folder.new out.new err.new) }
@@ -58,13 +57,12 @@ fn run_and_put<F: Folder, O: Sink, E: Sink>(
     err: &mut E,
 ) -> Result<End, Status>
     requires within { IsJob (job_of job.now) }
-    requires waits { (job_of job.now).watching ≡ asked_waits }
     requires fresh { watch.old ≡ unwaited }
     ensures works { Works
         (outside_of F.Folder O.Sink E.Sink folder.old out.old err.old)
-        (Run (job_of job.now)) (final_status (end_result result))
+        (Run (job_of job.now) asked_waits) (final_status (end_result result))
         (outside_of F.Folder O.Sink E.Sink folder.new out.new err.new) }
-    ensures told { Did (DoesRun (job_of job.now))
+    ensures told { Did (DoesRun (job_of job.now) asked_waits)
         (outside_of F.Folder O.Sink E.Sink folder.old out.old err.old)
         (end_result result)
         (outside_of F.Folder O.Sink E.Sink folder.new out.new err.new) }

@@ -61,8 +61,10 @@ fn work<F: Folder, O: Sink, E: Sink>(
     ensures never_falls { E.faults err.old ≤ E.faults err.new }
 {
     match read_words(alloc, words) {
-        Ok(Request::Run(job)) => run_command(alloc, &job, folder, out, err),
-        Ok(Request::Report(job, view)) => report_command(alloc, &job, &view, folder, out, err),
+        Ok(Request::Run(job, watching)) => run_command(alloc, &job, watching, folder, out, err),
+        Ok(Request::Report(job, positions, view)) => {
+            report_command(alloc, &job, positions, &view, folder, out, err)
+        }
         Ok(Request::Annotate(names, view)) => annotate_command(alloc, &names, &view, folder, out),
         Ok(Request::Demo(size)) => demo_command(alloc, size, folder, out, err),
         Ok(Request::Usage) => Status::Usage,

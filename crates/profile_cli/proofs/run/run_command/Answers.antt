@@ -5,17 +5,17 @@ use Rattle.profile_cli.proofs.run.run_command.Goals as goal
 
 pub returns-in-Ok-run_parts-clause-works : goal.returns-in-Ok-run_parts-clause-works
 returns-in-Ok-run_parts-clause-works g c =
-    Works-run_as _ _ _ c.in-Ok-run_parts.run' _ c.from-in-Ok-run_parts.result
+    Works-run_as _ _ _ _ c.in-Ok-run_parts.run' _ c.from-in-Ok-run_parts.result
     (quiet_gates _ c.in_default.not-Waits _) c.from-in-Ok-run_parts.ensures c.run.view_is c.in-Ok-run_parts.ensures.ran
 
 pub returns-in-Err-run_parts-clause-works : goal.returns-in-Err-run_parts-clause-works
-returns-in-Err-run_parts-clause-works g c = Works-stopped_run _ _ _ _ c.in-Err-run_parts.ensures.ran.0
+returns-in-Err-run_parts-clause-works g c = Works-stopped_run _ _ _ _ _ c.in-Err-run_parts.ensures.ran.0
 
 pub returns-in-Ok-run_parts-clause-told : goal.returns-in-Ok-run_parts-clause-told
 returns-in-Ok-run_parts-clause-told g c =
-    told_run _ _ _ _ c.in-Ok-run_parts.run' _ c.from-in-Ok-run_parts.result
+    told_run _ _ _ _ _ c.in-Ok-run_parts.run' _ c.from-in-Ok-run_parts.result
     (quiet_puts _ c.in_default.not-Waits _) c.from-in-Ok-run_parts.ensures c.run.view_is
     c.in-Ok-run_parts.ensures.ran.did
 
 pub returns-in-Err-run_parts-clause-told : goal.returns-in-Err-run_parts-clause-told
-returns-in-Err-run_parts-clause-told g c = told_run_stopped _ _ _ _ c.in-Err-run_parts.ensures.ran.1
+returns-in-Err-run_parts-clause-told g c = told_run_stopped _ _ _ _ _ c.in-Err-run_parts.ensures.ran.1

@@ -26,7 +26,7 @@ returns-in-Ok-clause-ran g c =
       sound = c.in_ok-syms.ensures.sound;
       so = tt;
       run = RunsGuest-ran addr_parts _ _ _ _ _ _ _ _ _ args c.in_ok-options.ensures
-          (by_address _ _ _ c.by_address-told.ensures.map
+          (by_address _ _ _ c.by_address-addresses.ensures.map
           (ap Addresses (c.in_ok-texts.ensures ∙ c.in_ok-places.ensures)) _ _ _ c.in-Ok.ensures.answer);
     })
 
@@ -39,7 +39,7 @@ returns-clause-ran g c =
       sound = c.in_ok-syms.ensures.sound;
       so = tt;
       run = RunsGuest-refused addr_parts _ _ _ _ _ _ _ c.in-Err.fault _ _ args c.in_ok-options.ensures
-          (by_address _ _ _ c.by_address-told.ensures.map
+          (by_address _ _ _ c.by_address-addresses.ensures.map
           (ap Addresses (c.in_ok-texts.ensures ∙ c.in_ok-places.ensures)) _ _ _ c.in-Err.ensures.answer)
           c.fault_status.ensures;
     })
