@@ -1,7 +1,6 @@
 //! Follows a script on the standard input, scene by scene: names, folders and sinks, in memory and real, tables of costs,
-//! rows that are folded, and the words of commands. A line `scene NAME ..` begins a scene; it is printed, as notes and
-//! empty lines are. What every other line says is its scene's. What has to be printed is that of worked cases, and of
-//! `data/requests/rule.py`.
+//! and rows that are folded. A line `scene NAME ..` begins a scene; it is printed, as notes and empty lines are. What every
+//! other line says is its scene's. What has to be printed is that of worked cases.
 #![tactic(auto)]
 
 mod adding;
@@ -11,8 +10,6 @@ mod folders;
 mod folding;
 mod names;
 mod refused;
-mod requests;
-mod show_request;
 mod sinks;
 mod tables;
 
@@ -40,7 +37,6 @@ impl Scenes for Layers {
             "streams" => sinks::streams(rt, lines),
             "tables" => play(rt, &mut Costs, lines),
             "folding" => folding::scene(rt, lines),
-            "requests" => play(rt, &mut requests::Stage, lines),
             _ => bail!("no such scene"),
         }
     }

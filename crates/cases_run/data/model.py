@@ -16,10 +16,9 @@ sys.path.append("../../cases_programs/data/programs")
 import demo_model
 import elf
 from profiles import Bad, Profile, Reader, Report, SumLimit, clean as clean_text, numbers
+from words import BRANCH_EVENTS, EVENTS, RUN_OPTIONS, asked, request_text, shown_events, words_of
 
 MASK = 0xFFFFFFFF
-EVENTS = "Ir Dr Dw I1mr D1mr D1mw ILmr DLmr DLmw"
-BRANCH_EVENTS = " Bc Bcm Bi Bim"
 USAGE = "usage: run or report [OPTIONS] PROG [ARGS], annotate [OPTIONS] FILES, demo N"
 ENDS = (0, 10, 11, 12, 13, 14, 15)
 # what a system call always answers, and what one answers of the descriptors 0 to 2
@@ -804,59 +803,6 @@ class Run:
         return out
 
 
-def is_power(number):
-    return number > 0 and number & (number - 1) == 0
-
-
-def number_between(low, high):
-    def read(text):
-        digits = text.removeprefix("+")
-        return int(digits) if digits.isdigit() and low <= int(digits) <= high else None
-
-    return read
-
-
-def geometry(text):
-    read = [number_between(0, 67108864)(piece) for piece in text.split(",")]
-    if len(read) != 3 or None in read:
-        return None
-    size, ways, line = read
-    fits = is_power(line) and 16 <= line <= 1024 and 1 <= ways <= 64
-    return tuple(read) if fits and size % (ways * line) == 0 and is_power(size // (ways * line)) else None
-
-
-def one_of(*texts):
-    return lambda text: text if text in texts else None
-
-
-RUN_OPTIONS = {
-    "base": (lambda text: text if 1 <= len(text) <= 200 else None, "callgrind.out"),
-    "input": (lambda text: text or None, None),
-    "budget": (number_between(1, 10**12), 10**9),
-    "quantum": (number_between(1, 10**6), 10000),
-    "turns": (number_between(0, 2**64 - 1), None),
-    "I1": (geometry, (32768, 8, 64)),
-    "D1": (geometry, (32768, 8, 64)),
-    "LL": (geometry, (8388608, 16, 64)),
-    "dump-every": (number_between(1, 10**12), None),
-    "dump-before": (str, None),
-    "dump-after": (str, None),
-    "branch-sim": (one_of("yes", "no"), "no"),
-    "dump-instr": (one_of("yes", "no"), "no"),
-}
-REPORT_OPTIONS = {
-    "sort": (str, None),
-    "threshold": (number_between(0, 100), 0),
-    "tree": (one_of("none", "caller", "calling", "both"), "none"),
-    "auto": (one_of("yes", "no"), "no"),
-}
-WATCH_OPTIONS = {"waits": (one_of("yes", "no"), "no"), "separate-callers": (number_between(1, 16), None)}
-COMMANDS = {
-    "run": RUN_OPTIONS | WATCH_OPTIONS,
-    "report": RUN_OPTIONS | REPORT_OPTIONS,
-    "annotate": REPORT_OPTIONS,
-    "demo": {},
-}
 # The bytes of the demonstration's file: the scene of programs of `cases_programs` reads it beside binutils.
 DEMO_BYTES = 4958
 DEMO_OPTIONS = {name: default for name, (_, default) in RUN_OPTIONS.items()} | {"base": "demo.out"}
@@ -869,43 +815,6 @@ LONG_DEMOS = {
         4: [9470006, 1890000, 1890000, 0, 0, 2, 0, 0, 2],
     }
 }
-
-
-def shown_events(options):
-    return (EVENTS + BRANCH_EVENTS * (options["branch-sim"] == "yes")).split(" ")
-
-
-def asked(words):
-    """The command, the options and the values, or nothing."""
-    if words[1:2] == [] or words[1] not in COMMANDS:
-        return None
-    rules, given, values, rest = COMMANDS[words[1]], {}, [], words[2:]
-    while rest:
-        word = rest.pop(0)
-        if word == "--":
-            values, rest = values + rest, []
-        elif word == "-" or not word.startswith("-"):
-            values.append(word)
-        else:
-            name, has_value, text = word.removeprefix("--").partition("=")
-            if not word.startswith("--") or name not in rules or name in given:
-                return None
-            if not has_value:
-                if not rest or rest[0].startswith("-") and rest[0] != "-":
-                    return None
-                text = rest.pop(0)
-            given[name] = rules[name][0](text)
-            if given[name] is None:
-                return None
-    options = {name: default for name, (_, default) in rules.items()} | given
-    counted = [options.get("waits") == "yes", options.get("dump-instr") == "yes", options.get("separate-callers") is not None]
-    if sum(counted) > 1:
-        return None
-    if words[1] == "report" and options["sort"] not in (None, *shown_events(options)):
-        return None
-    if words[1] == "demo" and (len(values) != 1 or number_between(1, 100000)(values[0]) is None):
-        return None
-    return (words[1], options, values) if values else None
 
 
 def demo_program(size):
@@ -1168,9 +1077,9 @@ class Script:
         elif not self.describe(word, rest):
             print(line)
             if word in ("$", "disk") and space:
-                spaced = [piece.replace("~", " ").replace("^", "\t") for piece in rest.split(" ") if rest]
-                words = ["cgprof"] + ["x" * int(w[1:]) if w.startswith("%") else w for w in spaced]
-                (self.command if word == "$" else self.command_on_disk)(words)
+                (self.command if word == "$" else self.command_on_disk)(words_of(rest))
+            elif word in ("asks", "wordless"):
+                print(request_text(asked(words_of(rest) if word == "asks" else [])))
             elif word == "whole":
                 self.show("", rest)
             elif word == "lines":

@@ -1,7 +1,7 @@
 //! The one scene of the script.
 
-use crate::disk;
 use crate::process::{exit_of, status_of};
+use crate::{disk, requests};
 use anyhow::{Result, ensure};
 use cases_script::{Leavings, Setting, command_words};
 use script_lines::Scene;
@@ -23,8 +23,8 @@ impl Stage {
 
 impl Scene for Stage {
     /// Follows a line of the script. `scene` begins anew. Lines that say something of the next command are taken. `$` does
-    /// a command, and `disk` does one over the real folder; others print what the last command left. Lines of these kinds
-    /// are printed.
+    /// a command, and `disk` does one over the real folder; `asks` prints what words ask for, and `wordless` what none do;
+    /// others print what the last command left. Lines of these kinds are printed.
     fn follow(&mut self, rt: &HostRuntime, line: &str) -> Result<()> {
         let (word, rest) = line.split_once(' ').unwrap_or((line, ""));
         if word == "scene" {
@@ -38,6 +38,8 @@ impl Scene for Stage {
         match word {
             "$" => run(rt, &mut self.setting, rest),
             "disk" => disk::run(rt, rest),
+            "asks" => requests::print_asked(rt, rest),
+            "wordless" => requests::print_wordless(rt),
             _ => self.setting.show(rt, word, rest),
         }
     }
