@@ -1,5 +1,5 @@
 -- Costs of 0 and 1 that are kept as bits.
-use Rattle.std.proofs.Common.{◌≡◌, ℕ, zero, suc, ◌+◌, ◌*◌, ◌^◌, ◌<◌, ◌≤◌, All, Bool}
+use Rattle.std.proofs.Common.{◌≡◌, ℕ, zero, suc, ◌+◌, ◌*◌, ◌%◌, ◌^◌, ◌<◌, ◌≤◌, All, Bool}
 use Rattle.std.proofs.Common.{true, false, List, refl, get_or, length, map, slice_set}
 use Rattle.std.proofs.Common.{if◌then◌else◌, sym, ap, ◌∙◌, subst, arith, add-one}
 use mir.Val.{bool_byte}
@@ -66,6 +66,20 @@ ones_are_few bits =
 -- a bit from the third on is none of a number that has none there
 pub no_bit : (bits k : ℕ) → bits < 8 → 3 ≤ k → bit_at bits k ≡ 0
 no_bit bits k few from = bit_at_above bits 3 k few from
+
+-- Where the lowest nine bits are below 8, only the kinds of branches have bits from the third on.
+pub branches_added : (bits k old new : ℕ) → bits % 512 < 8 → 3 ≤ k → (k < 9 → new ≡ old)
+    → (9 ≤ k → new ≡ old + bit_at bits k) → new ≡ old + bit_at bits k
+branches_added bits zero old new few from same added = absurd (omega (arith, from))
+branches_added bits (suc zero) old new few from same added = absurd (omega (arith, from))
+branches_added bits (suc (suc zero)) old new few from same added = absurd (omega (arith, from))
+branches_added bits (suc (suc (suc zero))) old new few from same added = omega (arith, few, same (omega arith))
+branches_added bits (suc (suc (suc (suc zero)))) old new few from same added = omega (arith, few, same (omega arith))
+branches_added bits (suc (suc (suc (suc (suc zero))))) old new few from same added = omega (arith, few, same (omega arith))
+branches_added bits (suc (suc (suc (suc (suc (suc zero)))))) old new few from same added = omega (arith, few, same (omega arith))
+branches_added bits (suc (suc (suc (suc (suc (suc (suc zero))))))) old new few from same added = omega (arith, few, same (omega arith))
+branches_added bits (suc (suc (suc (suc (suc (suc (suc (suc zero)))))))) old new few from same added = omega (arith, few, same (omega arith))
+branches_added bits (suc (suc (suc (suc (suc (suc (suc (suc (suc k))))))))) old new few from same added = added (omega arith)
 
 -- one more fetch is 1 more at the first place
 pub fetch_added : (numbers : List ℕ) (k : ℕ) → length numbers ≡ event_kinds

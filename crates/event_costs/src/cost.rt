@@ -11,7 +11,7 @@ use std::marker::Model;
 pub const EVENTS: usize = 13;
 
 /// How many of them are shown where branches aren't asked for: those before the first kind of branches.
-const EVENTS_WITHOUT_BRANCHES: usize = 9;
+pub(crate) const EVENTS_WITHOUT_BRANCHES: usize = 9;
 
 /// The names of the kinds of event, in the order of their numbers.
 pub const EVENT_NAMES: [&str; EVENTS] = [

@@ -6,7 +6,7 @@ ghost use Rattle.std.specs.Int.{bit_at};
 ghost use Rattle.event_costs.specs.Costs.{event_kinds, IsWhole, no_cost, sum_of_costs};
 ghost use Rattle.event_costs.specs.Kinds.{number};
 
-use crate::cost::{Cost, EVENTS};
+use crate::cost::{Cost, EVENTS, EVENTS_WITHOUT_BRANCHES};
 use crate::kind::Kind;
 use std::marker::Model;
 
@@ -151,7 +151,7 @@ fn add_bits(sums: &mut [u64], bits: u16, from: usize, end: usize)
     }
 }
 
-/// Adds the bits of the kinds that an event seldom counts as.
+/// Adds the bits of the kinds that an event seldom counts as: those of branches, and those of misses if there are any.
 #[cold]
 #[inline(never)]
 fn add_seldom(sums: &mut [u64], bits: u16)
@@ -162,5 +162,8 @@ fn add_seldom(sums: &mut [u64], bits: u16)
     ensures below { (kind : ℕ) → kind < 3 → get_or sums.new kind 0 ≡ get_or sums.old kind 0 }
     ensures same_length { length sums.new ≡ length sums.old }
 {
-    add_bits(sums, bits, OFTEN, EVENTS);
+    add_bits(sums, bits, EVENTS_WITHOUT_BRANCHES, EVENTS);
+    if bits % (1 << EVENTS_WITHOUT_BRANCHES) >= 1 << OFTEN {
+        add_bits(sums, bits, OFTEN, EVENTS_WITHOUT_BRANCHES);
+    }
 }
