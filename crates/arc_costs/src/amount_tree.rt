@@ -11,6 +11,7 @@ ghost use Rattle.arc_costs.specs.inner.Shape.{AllWhole};
 use crate::amount::{Amount, Part};
 use crate::digits::Digits;
 use crate::key_tree::KeyTree;
+use crate::row_ref::RowRef;
 use byte_text::OutOfMemory;
 use std::alloc::Global;
 use std::marker::Model;
@@ -152,14 +153,16 @@ impl<K: Digits, A: Amount> AmountTree<K, A> {
     }
 
     /// The rows that aren't nothing.
-    pub fn list_rows(&self) -> Result<Vec<(K, A)>, OutOfMemory>
+    pub fn list_rows(&self) -> Result<Vec<RowRef<'_, K, A>>, OutOfMemory>
         ensures rows { IfOk result (λ v. IsPermutation (filter (λ e. A.is_some e.1) self.now.entries) v.items) }
         ensures apart { IsDistinct K.eq (keys_of self.now.entries) }
     {
         let rows = self.rows.rows();
-        let mut listed = Vec::new(self.rows.allocator());
+        // With room for one more, which a table keeps beside them.
+        let room = self.some.len().saturating_add(1);
+        let mut listed = Vec::with_capacity(self.rows.allocator(), room)?;
         'rows: for index in &self.some {
-            listed.push(rows[*index])?;
+            listed.push(RowRef::of(&rows[*index]))?;
         }
         Ok(listed)
     }

@@ -9,6 +9,7 @@ mod listing;
 mod merging;
 mod near_arcs;
 mod near_rows;
+mod row_ref;
 mod rows;
 mod sorting;
 mod table;

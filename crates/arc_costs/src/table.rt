@@ -12,6 +12,7 @@ ghost use Rattle.arc_costs.specs.inner.Shape.{AllWhole};
 use crate::amount::{Amount, Part};
 use crate::amount_tree::AmountTree;
 use crate::digits::Digits;
+use crate::row_ref::RowRef;
 use crate::sorting::sorted_by_key;
 use byte_text::OutOfMemory;
 use std::alloc::Global;
@@ -164,23 +165,23 @@ impl<K: Digits, A: Amount> Table<K, A> {
     }
 
     /// The rows that aren't nothing.
-    fn list_rows(&self) -> Result<Vec<(K, A)>, OutOfMemory>
+    fn list_rows(&self) -> Result<Vec<RowRef<'_, K, A>>, OutOfMemory>
         ensures rows { IfOk result (λ v. IsPermutation (filter (λ e. A.is_some e.1) self.now.rows) v.items) }
         ensures apart { IsDistinct K.eq (keys_of self.now.rows) }
         ensures whole { AllWhole A.is_whole self.now.rows }
     {
         let mut rows = self.known.list_rows()?;
-        let Some((key, amount)) = self.newest else {
+        let Some(row) = &self.newest else {
             return Ok(rows);
         };
-        if amount.is_some() {
-            rows.push((key, amount))?;
+        if row.1.is_some() {
+            rows.push(RowRef::of(row))?;
         }
         Ok(rows)
     }
 
     /// The rows that aren't nothing, by rising key.
-    pub fn sorted(&self) -> Result<Vec<(K, A)>, OutOfMemory>
+    pub fn sorted(&self) -> Result<Vec<RowRef<'_, K, A>>, OutOfMemory>
     where
         K: Ord,
         ensures rows { IfOk result (λ v. IsPermutation (filter (λ e. A.is_some e.1) self.now.rows) v.items) }

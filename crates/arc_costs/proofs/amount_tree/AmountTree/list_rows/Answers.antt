@@ -28,15 +28,15 @@ offset_bounds-rows-index g c = let less = below g (goal.at.offset_bounds-rows-in
 pub rows-preserved : goal.rows-preserved
 rows-preserved g c = record {
   long =
-      let more = length-append c.rows.listed.items (c.index-rows-index.result ∷ []) in
+      let more = length-append c.rows.listed.items (c.of.result ∷ []) in
       let items = ap (λ rows. length rows) c.in_ok-push.ensures.items in
       omega (arith, more, items, c.rows.invariant.long);
   rows = λ d.
       let is = c.deref-index-items.result.now in
       let n = c.rows.index-index in
       let at : ℕ → g.row.K.Denot × g.row.A.Denot = λ i. get_or c.rows-rows.result.now i d in
-      let row : c.index-rows-index.result ≡ at (get_or is n 0)
-      = get_or_read c.rows-rows.result.now (get_or is n 0) c.index-rows-index.result
+      let row : c.of.result ≡ at (get_or is n 0)
+      = c.of.ensures ∙ get_or_read c.rows-rows.result.now (get_or is n 0) c.index-rows-index.result
       (below g (goal.at.rows-preserved g c).In-rows) c.index-rows-index.is d in
       c.in_ok-push.ensures.items ∙ (λ i. c.rows.invariant.rows d i ++ row i ∷ [])
       ∙ sym (map-append at (take n is) (get_or is n 0 ∷ [])) ∙ ap (map at) (sym (take_more is n 0 c.rows-test.true));

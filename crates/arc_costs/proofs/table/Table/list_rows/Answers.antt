@@ -26,7 +26,7 @@ pub returns-clause-rows : goal.returns-clause-rows
 returns-clause-rows g c =
     let known = c.self.inside.known.entries in
     let some : g.row.K.Denot × g.row.A.Denot → Bool = λ e. g.A.Amount.is_some e.1 in
-    let row : g.row.K.Denot × g.row.A.Denot = (c.in-Some.key, c.in-Some.amount) in
+    let row : g.row.K.Denot × g.row.A.Denot = c.in-Some.row in
     let rows : known ++ row ∷ [] ≡ c.args.self.now.rows
     = ap (all_rows known) (sym c.in-Some.is) ∙ ap (λ v. v.rows) c.self.view_is in
     let list_rows = c.in_ok-rows.ensures.rows in
@@ -35,8 +35,10 @@ returns-clause-rows g c =
       | then-is_some+in_ok-push w ↦
           subst (IsPermutation (filter some (known ++ row ∷ [])))
           (sym (ap (λ v. v.items) w.rows-is ∙ w.in_ok-push.ensures.items))
+          (subst (λ r. IsPermutation (filter some (known ++ row ∷ [])) (c.in_ok-rows.rows.items ++ r ∷ []))
+          (sym w.of.ensures)
           (listed_more some known c.in_ok-rows.rows.items row list_rows
-          (sym c.is_some.ensures ∙ w.if-is_some.true))
+          (sym c.is_some.ensures ∙ w.if-is_some.true)))
       | else-is_some w ↦
           subst (λ v. IsPermutation (filter some (known ++ row ∷ [])) v.items) (sym w.rows-is)
           (listed_still some known c.in_ok-rows.rows.items row list_rows
