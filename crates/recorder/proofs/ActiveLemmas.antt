@@ -1,6 +1,6 @@
 -- The bits of threads that may have had an event, after what changes accounts.
 use Rattle.std.proofs.Common.{◌≡◌, ◌≢◌, ℕ, ◌+◌, ◌-◌, ◌*◌, ◌/◌, ◌%◌, ◌^◌, ◌<◌, ◌≤◌, ◌==◌, Bool, true, false, List, ◌⊎◌, inl, inr}
-use Rattle.std.proofs.Common.{refl, ap, sym, subst, ◌∙◌, arith, Option, None, Some, if◌then◌else◌, get_or, set, length}
+use Rattle.std.proofs.Common.{refl, ap, sym, subst, ◌∙◌, arith, Option, None, Some, get_or, set, length}
 use Rattle.std.proofs.lemmas.Bool.Decides.{eqb_tells}
 use Rattle.std.proofs.lemmas.List.{get_or-set_other, get_or_default, get_or_past}
 use Rattle.std.proofs.lemmas.Grind.{get_or-set_at}
@@ -116,10 +116,11 @@ unmarked r marks t are none = by (account r t).had_event refl
 
 -- what is remembered stays marked, or is forgotten
 pub ready_marked : (plain : Bool) (was now : Option ReadyThread) (old new : List ℕ)
-    → now ≡ (if plain then was else None) → ((o : ThreadNo) → may_have old o ≡ true → may_have new o ≡ true)
-    → IsMarkedReady was old → IsMarkedReady now new
-ready_marked false was now old new is more marked = subst (λ ready. IsMarkedReady ready new) (sym is) tt
-ready_marked true was now old new is more marked = subst (λ ready. IsMarkedReady ready new) (sym is) (by was marked)
+    → (plain ≡ true → now ≡ was) → ((o : ThreadNo) → may_have old o ≡ true → may_have new o ≡ true)
+    → (plain ≡ false → IsMarkedReady now new) → IsMarkedReady was old → IsMarkedReady now new
+ready_marked false was now old new same more own marked = own refl
+ready_marked true was now old new same more own marked =
+    subst (λ ready. IsMarkedReady ready new) (sym (same refl)) (by was marked)
   where
     by : (ready : Option ReadyThread) → IsMarkedReady ready old → IsMarkedReady ready new
     by None marked_ = tt

@@ -42,7 +42,7 @@ nothing_noted syms watched e fs is =
 
 -- ---- a place whose row is found
 
-any_there : {X : Type 0} (p : X → Bool) (xs : List X) (i : ℕ) (d : X) → i < length xs → p (get_or xs i d) ≡ true
+pub any_there : {X : Type 0} (p : X → Bool) (xs : List X) (i : ℕ) (d : X) → i < length xs → p (get_or xs i d) ≡ true
     → list_any p xs ≡ true
 any_there p [] i d less is = absurd (omega (arith, less))
 any_there p (x ∷ xs) zero d less is = ap (λ b. b || list_any p xs) is

@@ -28,7 +28,7 @@ use crate::active::Active;
 use crate::book::{Book, Step};
 use crate::event_cost::EventCost;
 use crate::lent::Lent;
-use arc_costs::{NearRows, TableRows};
+use arc_costs::{NearRows, TableRows, Tables};
 use byte_text::OutOfMemory;
 use event_costs::{Cost, Event, FuncId, FuncSet, Noted, ThreadNo};
 use indexmap::IndexSet;
@@ -224,8 +224,8 @@ impl Recorder {
         self.books[place].rows.has_room()
     }
 
-    /// Whether it is remembered that the thread is ready: one comparison. What `remember` remembers lasts until a note
-    /// that is not plain, a cut, `ready` or the start of a thread.
+    /// Whether it is remembered that the thread is ready: one comparison. What is remembered lasts until a note of
+    /// another thread or one that leaves no room, a cut, `ready` or the start of a thread.
     #[inline(always)]
     pub fn is_remembered(&self, thread: ThreadNo) -> bool
         ensures { result ≡ true → (knows self.now thread ≡ true) × IsReady self.now thread }
@@ -431,7 +431,17 @@ impl Recorder {
             &step,
             cost,
         );
-        keep_where(plain, &mut self.ready);
+        let at = ReadyThread {
+            thread: event.thread,
+            place,
+        };
+        keep_where(
+            plain,
+            &self.arena,
+            &self.books[place].rows,
+            at,
+            &mut self.ready,
+        );
         noted
     }
 
@@ -537,14 +547,25 @@ impl Recorder {
     }
 }
 
-/// Forgets the thread that is remembered as ready, but where the event is plain: that uses no room.
+/// Keeps the thread that is remembered as ready where its event is plain, which uses no room. After another event its
+/// thread is remembered where there still is room, so that it needn't be made ready anew.
 #[inline(always)]
-fn keep_where(plain: bool, ready: &mut Option<ReadyThread>)
-    ensures { ready.new ≡ (if plain then ready.old else None) }
+fn keep_where(
+    plain: bool,
+    arena: &Arena,
+    rows: &Tables,
+    at: ReadyThread,
+    ready: &mut Option<ReadyThread>,
+)
+    ensures kept { plain ≡ true → ready.new ≡ ready.old }
+    ensures again { plain ≡ false → IfSome ready.new (λ it. (it ≡ at) × (1 ≤ arena.now.spare)
+        × (1 ≤ rows.now.line_room) × (1 ≤ rows.now.arc_room)) }
 {
-    if !plain {
-        *ready = None;
+    if plain {
+        return;
     }
+    let has_room = arena.has_room() && rows.has_room();
+    *ready = if has_room { Some(at) } else { None };
 }
 
 /// Marks the thread of an event, but where it is the one that is remembered, which is marked.

@@ -1,5 +1,5 @@
 use Rattle.std.proofs.Common.{◌≡◌, ℕ, ◌+◌, ◌<◌, ◌≤◌, map, set, get_or, ap, sym, subst}
-use Rattle.std.proofs.Common.{◌∙◌, arith, List, Option, Some, refl, length, true}
+use Rattle.std.proofs.Common.{◌∙◌, arith, List, Option, Some, refl, length, true, false}
 use Rattle.std.proofs.Common.{if◌then◌else◌}
 use Rattle.sym_map.specs.SymbolMap.{place_of}
 use Rattle.event_costs.specs.declared.numbers.ThreadNo.{ThreadNo}
@@ -11,12 +11,14 @@ use Rattle.arc_costs.specs.Lines.{has_line}
 use Rattle.recorder.specs.Accounts.{Account, IsReady, Ledger, live, Recording}
 use Rattle.recorder.specs.Notes.{account_after_note}
 use Rattle.recorder.specs.inner.Books.{account_in, Adds, entered_in, ledger_of}
-use Rattle.recorder.specs.inner.Places.{IsRemembered, ledger_at}
+use Rattle.recorder.specs.inner.Places.{IsReadyAt, IsRemembered, ledger_at}
 use Rattle.recorder.specs.declared.book.Book.{Book}
 use Rattle.recorder.proofs.LedgerLemmas as books
 use Rattle.recorder.proofs.ActiveLemmas.{marked_after, ready_marked}
-use Rattle.recorder.specs.inner.Active.{AreMarked, IsMarkedReady}
-use Rattle.recorder.proofs.ReadyLemmas.{one_element, remembered_after}
+use Rattle.recorder.specs.inner.Active.{AreMarked, IsMarkedReady, may_have}
+use Rattle.recorder.proofs.ReadyLemmas.{known_at, one_element, remembered_after}
+use Rattle.std.proofs.lemmas.Option.{IfSome_then}
+use Rattle.recorder.specs.declared.recorder.ReadyThread.{ReadyThread}
 use Rattle.recorder.proofs.RecordingLemmas as recordings
 use Rattle.recorder.proofs.RecordingLemmas.{IsUpdated}
 use Rattle.recorder.proofs.Others.{none_pushed}
@@ -134,15 +136,47 @@ plain_ready g c plain =
     ))
     (omega (arith, c.note-noted.ensures.arc_room, none, ap (λ (k : Ledger). k.arc_room) here))
 
+new_book : (g : Given.Over) (c : goal.After-keep_where g) → c.index-2.result.now ≡ new g c
+new_book g c =
+    let books_ = set (all g c) c.args.place (new g c) in
+    c.index-2.ensures ∙ one_element books_ c.args.place c.index-2.result.now (new g c)
+    (books.now_within (all g c) c.args.place (new g c) (within g c))
+    ∙ sym (books.now_at (all g c) c.args.place (new g c) (within g c))
+
+-- another event leaves its thread remembered only where there is room
+own_ready : (g : Given.Over) (c : goal.After-keep_where g) → c.is_plain-plain.result ≡ false
+    → IsRemembered (now g c) c.keep_where.new.ready
+own_ready g c not_plain =
+    let t = c.args.event.now.thread in
+    let r = c.args.self.now in
+    let place = c.args.place in
+    let ledger = ledger_of (after g c) (new g c) in
+    let here = recordings.ledger_is_new r (now g c) t place ledger (ledger_is_new g c) in
+    IfSome_then c.keep_where.new.ready (c.keep_where.ensures.again not_plain)
+    (λ it room.
+    subst (IsReadyAt (now g c)) (sym room.0)
+    (record {
+      at = recordings.places_kept r (now g c) t place ledger (ledger_is_new g c) t ∙ c.requires.at;
+      is_known = recordings.knows_kept r (now g c) t place ledger (ledger_is_new g c) t ∙ known_at r t place c.requires.at;
+      ready = record {
+        frames = room.1;
+        lines = subst (λ (k : Ledger). 1 ≤ k.line_room) (sym here)
+            (subst (λ (b : Book). 1 ≤ b.rows.line_room) (new_book g c) room.2);
+        arcs = subst (λ (k : Ledger). 1 ≤ k.arc_room) (sym here)
+            (subst (λ (b : Book). 1 ≤ b.rows.arc_room) (new_book g c) room.3);
+      };
+    }))
+
 remembered : (g : Given.Over) (c : goal.After-keep_where g) → IsRemembered (now g c) c.keep_where.new.ready
 remembered g c =
     remembered_after c.args.self.now (now g c) c.is_plain-plain.result c.self.inside.ready c.keep_where.new.ready
-    c.keep_where.ensures
+    c.keep_where.ensures.kept
     (recordings.places_kept c.args.self.now (now g c) c.args.event.now.thread c.args.place
     (ledger_of (after g c) (new g c)) (ledger_is_new g c))
     (recordings.knows_kept c.args.self.now (now g c) c.args.event.now.thread c.args.place
     (ledger_of (after g c) (new g c)) (ledger_is_new g c))
     (plain_ready g c)
+    (own_ready g c)
     (subst (λ (r : Recording). IsRemembered r c.self.inside.ready) c.self.view_is c.self.invariant.1)
 
 -- ---- what is marked
@@ -160,7 +194,11 @@ marked_ready : (g : Given.Over) (c : goal.After-keep_where g)
     → IsMarkedReady c.keep_where.new.ready c.mark_other.new.active.words.items
 marked_ready g c =
     ready_marked c.is_plain-plain.result c.self.inside.ready c.keep_where.new.ready c.self.inside.active.words.items
-    c.mark_other.new.active.words.items c.keep_where.ensures c.mark_other.ensures.others c.self.invariant.3
+    c.mark_other.new.active.words.items c.keep_where.ensures.kept c.mark_other.ensures.others
+    (λ not_plain. IfSome_then c.keep_where.new.ready (c.keep_where.ensures.again not_plain)
+    (λ it room. subst (λ (t : ReadyThread). may_have c.mark_other.new.active.words.items t.thread ≡ true) (sym room.0)
+    c.mark_other.ensures.own))
+    c.self.invariant.3
 
 -- ---- the answers
 
