@@ -1,13 +1,18 @@
--- How many instructions functions have.
+-- How many instructions functions have, and how many bytes the file.
 use Rattle.std.proofs.Common.{◌≡◌, ℕ, ◌+◌, ◌*◌, List, [], ◌∷◌, ◌++◌}
 use Rattle.std.proofs.Common.{length, map, refl, ap, ◌∙◌, arith, append-nil, length-append}
+use Rattle.std.specs.Fmt.{digits}
 use Rattle.std.specs.List.{flat_map, range_with_len}
 use Rattle.std.proofs.lemmas.List.Folds.{flat_map-map}
 use Rattle.std.proofs.lemmas.List.FromFn.{length-range_with_len, length-map-range_with_len}
 use Rattle.rv_decode.specs.declared.instr.Instr.{Instr}
+use Rattle.rv_decode.specs.Encoded.{encode}
+use Rattle.prog_make.specs.Code.{code_of}
+use Rattle.prog_make.specs.Encoding.{word_bytes}
+use Rattle.prog_make.specs.Lengths.{file_len, tables_len}
 use Rattle.demo_make.specs.Draws.{choice}
 use Rattle.demo_make.specs.Functions.{function, main, child}
-use Rattle.demo_make.specs.Program.{Routine, instructions, numbered_routine, routines}
+use Rattle.demo_make.specs.Program.{Routine, demo, demo_file_len, instructions, numbered_routine, routines}
 use Rattle.demo_make.specs.inner.Lists.{Lists, routines_before}
 use Rattle.demo_make.specs.declared.listing.Listing.{Listing}
 use Rattle.demo_make.proofs.Behind.{length-parts}
@@ -70,3 +75,26 @@ code-one l r lists = ap length lists.code ∙ ap (λ (c : List Instr). length c)
 
 pub functions-one : (l : Listing) (r : Routine) → Lists l (r ∷ []) → length l.functions.items ≡ 1
 functions-one l r lists = ap length lists.functions
+
+-- ---- the file
+
+pub length-code_of : (instrs : List Instr) → length (code_of instrs) ≡ 4 * length instrs
+unfolding code_of
+length-code_of [] = refl
+length-code_of (i ∷ instrs) =
+    let rest = length-code_of instrs in
+    let here : length (word_bytes (encode i)) ≡ 4 = refl in
+    let all = length-append (word_bytes (encode i)) (code_of instrs) in
+    omega arith
+
+-- the names, the lines and the symbols are as long whatever is drawn
+tables-len : (size : ℕ) → tables_len (demo size) (demo size).functions ≡ 2366
+unfolding routines digits
+tables-len size = refl
+
+pub demo-len : (size : ℕ) → file_len (demo size) ≡ demo_file_len
+demo-len size =
+    let code = length-code_of (instructions (routines size)) in
+    let many = length-all size in
+    let tables = tables-len size in
+    omega arith

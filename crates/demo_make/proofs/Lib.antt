@@ -6,5 +6,4 @@ pub mod Fits
 pub mod CodeFits
 pub mod Sound
 pub mod Listed
-pub mod Made
 pub mod Places

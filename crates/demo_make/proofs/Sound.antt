@@ -21,10 +21,8 @@ use Rattle.prog_make.proofs.Fit.{segments_sound}
 use Rattle.prog_make.proofs.SegmentsRead.{All-rest}
 use Rattle.std.proofs.lemmas.Grind.{flat_map-append}
 use Rattle.std.proofs.lemmas.Fmt.{decimal_by_steps, length-decimal-le_succ}
-use Rattle.rv_decode.specs.Encoded.{encode}
 use Rattle.prog_make.specs.Code.{code_of}
-use Rattle.prog_make.specs.Encoding.{word_bytes}
-use Rattle.demo_make.proofs.Lengths.{length-all}
+use Rattle.demo_make.proofs.Lengths.{length-all, length-code_of}
 use Rattle.demo_make.specs.Functions.{main, child}
 use Rattle.demo_make.specs.Program.{Routine, demo, instructions, numbered_routine}
 use Rattle.demo_make.specs.Program.{part_behind, parts_behind, program_of, routines}
@@ -285,15 +283,6 @@ routines-are size =
     (All-cons IsRoutine second random_below (child-is size) (random_below-are size 0 32 (lit≤ tt)))
 
 -- ---- the whole
-
-length-code_of : (instrs : List Instr) → length (code_of instrs) ≡ 4 * length instrs
-unfolding code_of
-length-code_of [] = refl
-length-code_of (i ∷ instrs) =
-    let rest = length-code_of instrs in
-    let here : length (word_bytes (encode i)) ≡ 4 = refl in
-    let all = length-append (word_bytes (encode i)) (code_of instrs) in
-    omega arith
 
 -- the parts where the code has so many bytes in memory
 abbrev with_len : List Routine → ℕ → Parts

@@ -1,16 +1,12 @@
 -- The program of a size.
-use Rattle.std.specs.Prelude.{◌≡◌, ℕ, ◌+◌, ◌*◌, List, [], ◌∷◌}
-use Rattle.std.specs.Prelude.{◌++◌, length, map, codes, decimal, None, IsSomeAnd, slice_get}
-use Rattle.std.specs.List.{All, flat_map, range_with_len}
+use Rattle.std.specs.Prelude.{ℕ, ◌+◌, ◌*◌, List, [], ◌∷◌}
+use Rattle.std.specs.Prelude.{◌++◌, length, map, codes, decimal}
+use Rattle.std.specs.List.{flat_map, range_with_len}
 use Rattle.rv_decode.specs.declared.instr.Instr.{Instr}
-use Rattle.elf_read.specs.Image.{image_of}
-use Rattle.elf_read.specs.Refusal.{refusal}
 use Rattle.elf_read.specs.Standard.{pf_r, pf_w, pf_x}
-use Rattle.dwarf_line.specs.LineRow.{line_at}
 use Rattle.prog_make.specs.declared.function_part.FunctionPart.{FunctionPart}
 use Rattle.prog_make.specs.Code.{code_of}
-use Rattle.prog_make.specs.Contents.{segment_in, symbol_in, function_symbols, HasCode, lines_of, line_made}
-use Rattle.prog_make.specs.Functions.{section_number}
+pub use Rattle.prog_make.specs.Contents.{IsFileOf}
 use Rattle.prog_make.specs.Parts.{Parts}
 use Rattle.demo_make.specs.Draws.{choice}
 use Rattle.demo_make.specs.Functions.{main, child, function}
@@ -68,16 +64,6 @@ program_of rs = record {
 abbrev pub demo : ℕ → Parts
 demo size = program_of (routines size)
 
--- the bytes are a file of these parts, as its readers read it
-pub record IsFileOf (parts : Parts) (file : List ℕ) : Type 0 where
-  pub accepted : refusal file ≡ None
-  pub entry : (image_of file).entry ≡ parts.entry
-  -- its segments are these, with their bytes
-  pub segments : map (segment_in file) (image_of file).segments ≡ parts.segments
-  -- and its symbols those of the functions
-  pub symbols : map (symbol_in file) (image_of file).symbols ≡ function_symbols parts
-  -- each function lies in a section of code
-  pub code : All (λ f. IsSomeAnd (slice_get (image_of file).sections (section_number parts.segments f))
-      (λ s. HasCode s f)) parts.functions
-  -- each instruction of a function has its line, and no other address has one
-  pub lines : (a : ℕ) → line_at (lines_of file) a ≡ line_made parts a
+-- how many bytes its file has, for every size
+abbrev pub demo_file_len : ℕ
+demo_file_len = 4958

@@ -6,7 +6,7 @@ ghost use Rattle.elf_read.specs.Standard.{pf_r, pf_x};
 ghost use Rattle.prog_make.specs.Code.{CanBeAssembled, code_of};
 ghost use Rattle.demo_make.specs.Layout.{child_addr, code_addr, function_addr};
 ghost use Rattle.demo_make.specs.Draws.{choice};
-ghost use Rattle.demo_make.specs.Program.{demo, IsFileOf, routines};
+ghost use Rattle.demo_make.specs.Program.{demo, demo_file_len, IsFileOf, routines};
 ghost use Rattle.demo_make.specs.inner.Lists.{Lists, routines_before};
 
 use crate::draws::{Choice, choose, generator_of};
@@ -121,6 +121,7 @@ pub fn demo_program(alloc: Global, size: u32) -> Result<Vec<u8>, OutOfMemory>
     requires least { 1 ≤ size }
     requires most { size ≤ 100000 }
     ensures file { IfOk result (λ file. IsFileOf (demo size) file.items) }
+    ensures len { IfOk result (λ file. length file.items ≡ demo_file_len) }
     // Each function begins where the jumps to it go.
     ensures places { map (λ f. f.addr) (demo size).functions
         ≡ code_addr ∷ child_addr ∷ map function_addr (range_with_len 0 32) }

@@ -11,10 +11,12 @@ use Rattle.prog_make.specs.declared.function_part.FunctionPart.{FunctionPart}
 use Rattle.prog_make.specs.SegmentContent.{SegmentContent}
 use Rattle.prog_make.specs.Parts.{Parts, content_len}
 use Rattle.prog_make.specs.Functions.{holds, lies_in, has_lines, is_executable, instruction_count, IsWhole}
+use Rattle.prog_make.specs.Lengths.{sequence_len, line_table_len}
 use Rattle.prog_make.specs.inner.Conditions.{IsPlaced, covers, AreFit}
 use Rattle.prog_make.specs.inner.LineProgram.{first_row_bytes, end_bytes, next_row, padded_leb128, sequence_bytes}
 use Rattle.prog_make.specs.inner.LineProgram.{program_bytes}
-use Rattle.prog_make.specs.inner.Strings.{with_zero, section_strings}
+use Rattle.prog_make.specs.inner.LineSection.{line_section}
+use Rattle.prog_make.specs.inner.Strings.{with_zero, name_strings, section_strings}
 use Rattle.prog_make.specs.inner.Symbols.{symbol_bytes, symbols_bytes, symbol_entries, entries_from}
 use Rattle.prog_make.specs.inner.Tail.{headers_offset}
 use Rattle.prog_make.proofs.Reading.{length-entries}
@@ -108,11 +110,27 @@ entry_in entry (s ∷ segments) placed found =
 
 -- ---- the lengths of the tables
 
-length-sequence : (f : FunctionPart) → 0 < instruction_count f → length (sequence_bytes f) ≡ instruction_count f + 20
+-- entries of any lengths
+length-entries-sum : {X : Type 0} (f : X → List ℕ) (len : X → ℕ) → ((x : X) → length (f x) ≡ len x) → (xs : List X)
+    → length (flat_map f xs) ≡ sum_by len xs
+length-entries-sum f len each [] = refl
+length-entries-sum f len each (x ∷ xs) =
+    let here = each x in
+    let rest = length-entries-sum f len each xs in
+    let sum = sum_by-cons len x xs in
+    omega (arith, length-append (f x) (flat_map f xs))
+
+length-sequence : (f : FunctionPart) → length (sequence_bytes f) ≡ sequence_len f
 unfolding first_row_bytes end_bytes padded_leb128
-length-sequence f some =
+length-sequence f =
     let a = length-append (replicate (instruction_count f - 1) next_row) end_bytes in
     let b = length-replicate (instruction_count f - 1) next_row in
+    omega arith
+
+pub length-line_section : (parts : Parts) → length (line_section parts.file parts.functions) ≡ line_table_len parts
+length-line_section parts =
+    let sequences = length-entries-sum sequence_bytes sequence_len length-sequence (filter has_lines parts.functions) in
+    let unit = length-unit parts.file (program_bytes parts.functions) in
     omega arith
 
 length-program : (functions : List FunctionPart) → All IsWhole functions
@@ -133,7 +151,7 @@ length-program (f ∷ functions) whole =
         → 4 * length (flat_map sequence_bytes (cond b (f ∷ filter has_lines functions) (filter has_lines functions))) ≤
         sum_by (λ g. g.size) (f ∷ functions) + 80 * suc (length functions)
     go true count some rest sum =
-        let here = length-sequence f (omega arith) in
+        let here = length-sequence f in
         let both = length-append (sequence_bytes f) (program_bytes functions) in
         omega arith
     go false count some rest sum = omega arith
@@ -155,15 +173,22 @@ length-symbols segments functions =
     let b = length-entries_from 1 segments functions in
     omega arith
 
-length-names : (functions : List FunctionPart)
-    → length (flat_map (λ f. with_zero f.name) functions) + 1023 * length functions
+pub length-name_strings : (functions : List FunctionPart)
+    → length (name_strings functions) ≡ 1 + sum_by (λ f. length f.name + 1) functions
+length-name_strings functions =
+    let names = length-entries-sum (λ (f : FunctionPart). with_zero f.name) (λ f. length f.name + 1)
+    (λ f. length-append f.name (0 ∷ [])) functions in
+    omega arith
+
+-- each function has 1,024 bytes to spare
+names_room : (functions : List FunctionPart)
+    → sum_by (λ f. length f.name + 1) functions + 1023 * length functions
     ≡ sum_by (λ f. length f.name + 1024) functions
-length-names [] = refl
-length-names (f ∷ functions) =
-    let rest = length-names functions in
-    let sum = sum_by-cons (λ (g : FunctionPart). length g.name + 1024) f functions in
-    let here = length-append f.name (0 ∷ []) in
-    let both = length-append (with_zero f.name) (flat_map (λ g. with_zero g.name) functions) in
+names_room [] = refl
+names_room (f ∷ functions) =
+    let a = sum_by-cons (λ (g : FunctionPart). length g.name + 1) f functions in
+    let b = sum_by-cons (λ (g : FunctionPart). length g.name + 1024) f functions in
+    let c = names_room functions in
     omega arith
 
 pub length-section_strings : length section_strings ≡ 51
@@ -186,7 +211,8 @@ tables_fit parts can =
     let total = can.total in
     let count = can.segments.count in
     let room = segments_room parts.segments in
-    let names = length-names parts.functions in
+    let names = length-name_strings parts.functions in
+    let spare = names_room parts.functions in
     let few = sizes_are_few parts can in
     let program = length-program parts.functions can.functions.whole in
     let unit = length-unit parts.file (program_bytes parts.functions) in

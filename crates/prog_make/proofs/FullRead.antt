@@ -34,6 +34,7 @@ use Rattle.prog_make.specs.declared.section.TableLengths.{TableLengths}
 use Rattle.prog_make.specs.SegmentContent.{SegmentContent}
 use Rattle.prog_make.specs.Parts.{Parts, content_len}
 use Rattle.prog_make.specs.Functions.{holds, lies_in, has_lines, is_executable, IsWhole, section_number}
+use Rattle.prog_make.specs.Lengths.{file_len, tables_len}
 use Rattle.prog_make.specs.inner.Conditions.{AreFit}
 use Rattle.prog_make.specs.inner.Strings.{name_strings, section_strings}
 use Rattle.prog_make.specs.Programs.{file_segments, file_segments_from, content_offset}
@@ -43,12 +44,13 @@ use Rattle.prog_make.specs.inner.Symbols.{symbol_entries, symbol_bytes, symbols_
 use Rattle.prog_make.specs.inner.LineSection.{line_section}
 use Rattle.prog_make.specs.inner.Tail.{table_lengths, tables_offset, headers_offset, headers_of, tail_of}
 use Rattle.prog_make.specs.inner.ElfFile.{full_header, full_file, plain_header, plain_file, file_for, file_of}
-use Rattle.prog_make.specs.Contents.{segment_in, symbol_in, function_symbol, undefined_symbol, function_symbols}
-use Rattle.prog_make.specs.Contents.{symbols_for, function_line, HasCode, lines_of, line_made}
+use Rattle.prog_make.specs.Contents.{symbol_in, function_symbol, undefined_symbol}
+use Rattle.prog_make.specs.Contents.{symbols_for, function_line, HasCode, IsFileOf, lines_of, line_made}
 use Rattle.prog_make.proofs.Reading.{length-entries}
 use Rattle.prog_make.proofs.SegmentsRead.{All-more, All-rest, IsGood, length-file_segments_from}
 use Rattle.prog_make.proofs.ElfRead.{IsSound, length-elf_file, header_is, contents_are, good, refusal-elf_file, segments-elf_file}
 use Rattle.prog_make.proofs.Bounds.{tables_fit, entry_in, in_code_below, length-section_strings, length-symbol_bytes}
+use Rattle.prog_make.proofs.Bounds.{length-line_section, length-symbols, length-name_strings}
 use Rattle.prog_make.proofs.StringsRead.{text_at}
 use Rattle.prog_make.proofs.SectionsRead.{IsFine, HasHeaders, header_read, length-section_bytes, section_header-is}
 use Rattle.prog_make.proofs.SectionsRead.{section_count-is, sections_are_whole, no_sections_fault}
@@ -249,6 +251,17 @@ module _ (parts : Parts) (can : AreFit parts) (flags : All (λ s. s.flags < 2 ^ 
   length-file : length (full_file parts) ≡ headers_offset parts + 40 * (5 + length parts.segments)
   length-file = let a = length-elf_file (full_header parts) parts.segments (tail_of parts) in let b =
       length-tail in omega arith
+
+  -- where there are functions
+  length-made : (f : FunctionPart) (functions : List FunctionPart) → parts.functions ≡ f ∷ functions
+      → length (full_file parts) ≡ file_len parts
+  length-made f functions some =
+      let file = length-file in
+      let lines = length-line_section parts in
+      let symbols = length-symbols parts.segments parts.functions in
+      let strings = length-name_strings parts.functions in
+      let tables = ap (tables_len parts) some in
+      omega arith
 
   pub has_headers : HasHeaders (full_file parts) (headers_of parts) (headers_offset parts)
       (tables_offset parts + (table_lengths parts).lines + (table_lengths parts).symbols +
@@ -484,24 +497,17 @@ module _ (parts : Parts) (can : AreFit parts) (flags : All (λ s. s.flags < 2 ^ 
       (lined_fit parts.functions rows_fit))
       ∙ line_is parts.file a parts.functions rows_fit
 
--- what is promised of a file of parts
-pub record IsMade (parts : Parts) (file : List ℕ) : Type 0 where
-  pub accepted : refusal file ≡ None
-  pub entry : (image_of file).entry ≡ parts.entry
-  pub segments : map (segment_in file) (image_of file).segments ≡ parts.segments
-  pub symbols : map (symbol_in file) (image_of file).symbols ≡ function_symbols parts
-  pub code : All (λ f. IsSomeAnd (slice_get (image_of file).sections (section_number parts.segments f))
-      (λ s. HasCode s f)) parts.functions
-  pub lines : (a : ℕ) → line_at (lines_of file) a ≡ line_made parts a
-
 full_is_made : (parts : Parts) → AreFit parts → All (λ s. s.flags < 2 ^ 32) parts.segments
-    → function_symbols parts ≡ undefined_symbol ∷ map (function_symbol parts.segments) parts.functions
-    → IsMade parts (full_file parts)
-full_is_made parts can flags some = record {
+    → (f : FunctionPart) (functions : List FunctionPart) → parts.functions ≡ f ∷ functions
+    → IsFileOf parts (full_file parts)
+full_is_made parts can flags f functions some = record {
   accepted = accepted parts can flags;
+  len = length-made parts can flags f functions some;
   entry = ap (λ h. h.entry) (header_is (full_header parts) parts.segments (tail_of parts) (sound parts can flags));
   segments = segments-elf_file (full_header parts) parts.segments (tail_of parts) (sound parts can flags);
-  symbols = symbols parts can flags ∙ sym some;
+  symbols = symbols parts can flags
+      ∙ ap (λ fs. undefined_symbol ∷ map (function_symbol parts.segments) fs) some
+      ∙ sym (ap (symbols_for parts.segments) some);
   code = code parts can flags;
   lines = lines parts can flags;
 }
@@ -558,11 +564,13 @@ module _ (parts : Parts) (can : AreFit parts) (flags : All (λ s. s.flags < 2 ^ 
         strings = content_of (image_of (plain_file parts)) (codes ".debug_str");
       }) section) a) bytes
 
-  plain_is_made : IsMade parts (plain_file parts)
+  plain_is_made : IsFileOf parts (plain_file parts)
   plain_is_made = record {
     accepted = refusal-elf_file (plain_header parts) parts.segments [] plain_sound can.segments.apart
         can.segments.entry_aligned can.segments.entry_in_code whole_none
         (ap (λ n. first_fault (table (section_fault (plain_file parts)) n)) count_none);
+    len = let file = length-elf_file (plain_header parts) parts.segments [] in
+        let tables = ap (tables_len parts) none in omega arith;
     entry = ap (λ h. h.entry) (header_is (plain_header parts) parts.segments [] plain_sound);
     segments = segments-elf_file (plain_header parts) parts.segments [] plain_sound;
     symbols = ap (map (symbol_in (plain_file parts))) no_symbols ∙ sym (ap (symbols_for parts.segments) none);
@@ -572,11 +580,9 @@ module _ (parts : Parts) (can : AreFit parts) (flags : All (λ s. s.flags < 2 ^ 
         (record { file = unknown; line = 0 })) none);
   }
 
-pub is_made : (parts : Parts) → AreFit parts → All (λ s. s.flags < 2 ^ 32) parts.segments → IsMade parts (file_of parts)
+pub is_made : (parts : Parts) → AreFit parts → All (λ s. s.flags < 2 ^ 32) parts.segments → IsFileOf parts (file_of parts)
 is_made parts can flags = go parts.functions refl
   where
-    go : (functions : List FunctionPart) → parts.functions ≡ functions → IsMade parts (file_for parts functions)
+    go : (functions : List FunctionPart) → parts.functions ≡ functions → IsFileOf parts (file_for parts functions)
     go [] e = plain_is_made parts can flags e
-    go (f ∷ functions) e = full_is_made parts can flags
-        (ap (symbols_for parts.segments) e
-        ∙ ap (λ fs. undefined_symbol ∷ map (function_symbol parts.segments) fs) (sym e))
+    go (f ∷ functions) e = full_is_made parts can flags f functions e

@@ -1,20 +1,24 @@
 -- What a made file holds, in the words of its readers.
-use Rattle.std.specs.Prelude.{ℕ, ◌+◌, ◌-◌, ◌/◌, ◌≢◌, ◌≤◌, ◌&&◌, List, [], ◌∷◌, map, bit_and, slice_range, find, codes}
+use Rattle.std.specs.Prelude.{◌≡◌, ℕ, ◌+◌, ◌-◌, ◌/◌, ◌≢◌, ◌≤◌, ◌&&◌, List, [], ◌∷◌, map, bit_and, slice_range, find, codes}
+use Rattle.std.specs.Prelude.{length, None, IsSomeAnd, slice_get}
+use Rattle.std.specs.List.{All}
 use Rattle.std.specs.Option.{option_map_or}
 use Rattle.elf_read.specs.declared.program.Segment.{Segment}
 use Rattle.elf_read.specs.declared.section.Section.{Section}
 use Rattle.elf_read.specs.declared.symbol.Symbol.{Symbol}
 use Rattle.elf_read.specs.Image.{image_of, content_of}
 use Rattle.elf_read.specs.Standard.{shf_execinstr, shn_undef, stb_global, stb_local, stt_func, stt_notype}
+use Rattle.elf_read.specs.Refusal.{refusal}
 use Rattle.elf_read.specs.Strings.{part_of}
 use Rattle.dwarf_line.specs.Program.{SequenceOf}
-use Rattle.dwarf_line.specs.LineRow.{LineRow, FileLine}
+use Rattle.dwarf_line.specs.LineRow.{LineRow, FileLine, line_at}
 use Rattle.dwarf_line.specs.FileText.{unknown}
 use Rattle.dwarf_line.specs.Unit.{line_sequences}
 use Rattle.prog_make.specs.declared.function_part.FunctionPart.{FunctionPart}
 use Rattle.prog_make.specs.SegmentContent.{SegmentContent}
 use Rattle.prog_make.specs.Parts.{Parts}
 use Rattle.prog_make.specs.Functions.{lies_in, has_lines, section_number}
+use Rattle.prog_make.specs.Lengths.{file_len}
 
 -- a segment of a file, with its bytes
 abbrev pub segment_in : List ℕ → Segment → SegmentContent
@@ -100,3 +104,19 @@ abbrev pub line_made : Parts → ℕ → FileLine
 line_made parts a =
     option_map_or (function_line parts.file a) (find (λ f. has_lines f && lies_in a f) parts.functions)
     (record { file = unknown; line = 0 })
+
+-- the bytes are a file of these parts, as its readers read it
+pub record IsFileOf (parts : Parts) (file : List ℕ) : Type 0 where
+  pub accepted : refusal file ≡ None
+  -- there are so many of them
+  pub len : length file ≡ file_len parts
+  pub entry : (image_of file).entry ≡ parts.entry
+  -- its segments are these, with their bytes
+  pub segments : map (segment_in file) (image_of file).segments ≡ parts.segments
+  -- and its symbols those of the functions
+  pub symbols : map (symbol_in file) (image_of file).symbols ≡ function_symbols parts
+  -- each function lies in a section of code
+  pub code : All (λ f. IsSomeAnd (slice_get (image_of file).sections (section_number parts.segments f))
+      (λ s. HasCode s f)) parts.functions
+  -- each instruction of a function has its line, and no other address has one
+  pub lines : (a : ℕ) → line_at (lines_of file) a ≡ line_made parts a

@@ -5,6 +5,7 @@ pub mod Parts
 pub mod Names
 pub mod Functions
 pub mod Programs
+pub mod Lengths
 pub mod Conditions
 pub mod Contents
 pub mod inner

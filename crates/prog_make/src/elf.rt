@@ -1,17 +1,13 @@
 //! A program as an ELF file.
 
-ghost use Rattle.std.specs.Prelude.{◌≡◌, ◌+◌, ◌<◌, ◌^◌, ℕ, None, IfOk, OnOk, IsSomeAnd, length, map, slice_get};
+ghost use Rattle.std.specs.Prelude.{◌≡◌, ◌+◌, ◌<◌, ◌^◌, IfOk, OnOk, length};
 ghost use Rattle.std.specs.List.{All};
-ghost use Rattle.elf_read.specs.Image.{image_of};
-ghost use Rattle.elf_read.specs.Refusal.{refusal};
-ghost use Rattle.dwarf_line.specs.LineRow.{line_at};
 ghost use Rattle.prog_make.specs.Conditions.{CanBeMade};
 ghost use Rattle.prog_make.specs.inner.Conditions.{AreFit};
-ghost use Rattle.prog_make.specs.Contents.{segment_in, symbol_in, function_symbols, HasCode, lines_of, line_made};
+ghost use Rattle.prog_make.specs.Contents.{IsFileOf};
 ghost use Rattle.prog_make.specs.inner.ElfFile.{elf_file, plain_file, full_file, file_of};
 ghost use Rattle.prog_make.specs.Parts.{content_len};
 ghost use Rattle.prog_make.specs.Programs.{content_offset};
-ghost use Rattle.prog_make.specs.Functions.{section_number};
 
 use crate::header::{Header, push_header};
 use crate::parts::ElfParts;
@@ -97,19 +93,7 @@ fn file_of(alloc: Global, parts: &ElfParts) -> Result<Text, OutOfMemory>
 /// a symbol table and a line table too.
 pub fn make_elf(alloc: Global, parts: &ElfParts) -> Result<Vec<u8>, OutOfMemory>
     requires { CanBeMade parts.now }
-    ensures accepted { IfOk result (λ file. refusal file.items ≡ None) }
-    ensures entry { IfOk result (λ file. (image_of file.items).entry ≡ parts.now.entry) }
-    // The file has exactly these segments, each with its bytes,
-    ensures segments { IfOk result
-        (λ file. map (segment_in file.items) (image_of file.items).segments ≡ parts.now.segments) }
-    // and the symbols of the functions, each in a section of code.
-    ensures symbols { IfOk result (λ file. map (symbol_in file.items) (image_of file.items).symbols
-        ≡ function_symbols parts.now) }
-    ensures code { IfOk result (λ file. All (λ f. IsSomeAnd
-        (slice_get (image_of file.items).sections (section_number parts.now.segments f)) (λ s. HasCode s f))
-        parts.now.functions) }
-    // Each instruction of a function with lines has its line, and no other address has one.
-    ensures lines { IfOk result (λ file. (a : ℕ) → line_at (lines_of file.items) a ≡ line_made parts.now a) }
+    ensures { IfOk result (λ file. IsFileOf parts.now file.items) }
 {
     let file = file_of(alloc, parts)?;
     Ok(file.bytes)
