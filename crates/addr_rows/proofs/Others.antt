@@ -5,5 +5,5 @@ pub use Rattle.ctx_rows.proofs.HoldsLemmas.{IsReached, steps_more, true_false}
 pub use Rattle.recorder.proofs.ArcRowLemmas.{arc_alike, arc_itself, arc_only, arc_total}
 pub use Rattle.recorder.proofs.EnteredLemmas.{change_push}
 pub use Rattle.recorder.proofs.LineLemmas.{place_alike, place_itself, place_only, place_total}
-pub use Rattle.recorder.proofs.ListLemmas.{all_of, from_append, from_flat, from_map, in_filter, in_left, in_right}
-pub use Rattle.recorder.proofs.ListLemmas.{of_all}
+pub use Rattle.recorder.proofs.ListLemmas.{all_of, from_append, from_flat, from_map, in_filter, in_flat, in_left}
+pub use Rattle.recorder.proofs.ListLemmas.{in_right, of_all}

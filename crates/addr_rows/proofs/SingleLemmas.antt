@@ -1,312 +1,252 @@
 -- Rows by contexts of no callers are plain rows: a context is a function.
-use Rattle.std.proofs.Common.{◌≡◌, ◌⊎◌, inl, inr, ℕ, Bool, true, false, List, [], ◌∷◌, Option, None, Some, IfSome}
-use Rattle.std.proofs.Common.{filter, flat_map, length, map, refl, ap, sym, subst, ◌∙◌, if◌then◌else◌}
-use Rattle.std.specs.Cmp.{IsTotalOrder}
-use Rattle.std.specs.FinMap.{IsAntisymmetric}
+use Rattle.std.proofs.Common.{◌≡◌, ℕ, ◌&&◌, ◌==◌, Bool, true, false, List, [], ◌∷◌, ◌++◌, Option, None, Some, IfSome}
+use Rattle.std.proofs.Common.{filter, flat_map, map, refl, ap, sym, ◌∙◌}
+use Rattle.std.specs.BTreeSet.{insert_key}
 use Rattle.std.specs.List.{AllByRecursion}
-use Rattle.std.specs.List.Sorted.{IsStrictlySortedBy}
 use Rattle.std.specs.Option.{option_map, option_to_list}
-use Rattle.std.specs.Ordering.{nat_cmp, ordering_then}
-use Rattle.std.specs.Cmp.Lexicographic.{slice_cmp}
+use Rattle.std.specs.Ordering.{match_ordering, nat_cmp, ordering_then}
 use Rattle.std.specs.declared.cmp.Ordering.{Ordering}
 use Rattle.std.specs.declared.cmp.Ordering.TheVariants.{Equal, Greater, Less}
-use Rattle.std.proofs.lemmas.List.FromFn.{length-map-range_with_len}
-use Rattle.event_costs.specs.Costs.{event_kinds}
+use Rattle.std.proofs.lemmas.List.{map-append}
 use Rattle.event_costs.specs.declared.event.Event.{Event}
-use Rattle.event_costs.specs.Keys.{ArcKey}
 use Rattle.event_costs.specs.declared.numbers.FuncId.{FuncId}
-use Rattle.event_costs.specs.Keys.{Place}
-use Rattle.sym_map.specs.SymbolMap.{SymbolMap}
-use Rattle.shadow_stack.specs.Changes.{change, new_activation}
-use Rattle.shadow_stack.specs.Kinds.{is_root}
+use Rattle.event_costs.specs.Keys.{ArcKey, Place}
+use Rattle.event_costs.specs.Order as order
+use Rattle.sym_map.specs.SymbolMap.{SymbolMap, place_of}
+use Rattle.shadow_stack.specs.Changes.{change, with_pushed}
 use Rattle.shadow_stack.specs.Stacks.{Activation, Stack, top_of}
 use Rattle.shadow_stack.specs.Traces.{EventOnStack}
-use Rattle.shadow_stack.specs.declared.frame.Kind.{Kind}
 use Rattle.arc_costs.specs.Arcs as arcs
-use Rattle.arc_costs.specs.Contents.{Listed}
-use Rattle.arc_costs.specs.Keys.{risen}
+use Rattle.arc_costs.specs.Keys.{by_kind, risen}
 use Rattle.arc_costs.specs.Lines as lines
-use Rattle.event_costs.specs.Order as order
-use Rattle.arc_costs.specs.Rows.{ArcRow}
-use Rattle.arc_costs.specs.Rows.{LineRow}
-use Rattle.arc_costs.proofs.RiseLemmas as rise
-use Rattle.recorder.specs.Laws.{IsIn}
+use Rattle.arc_costs.proofs.RowLemmas.{filter-map}
+use Rattle.recorder.specs.Rows as events
 use Rattle.recorder.specs.Rows.{rows_of}
-use Rattle.recorder.proofs.AllRowLemmas.{AreWhole, rows_are}
-use Rattle.addr_rows.proofs.Others.{arc_only, arc_total, change_push, place_only, place_total, from_append, from_flat}
-use Rattle.addr_rows.proofs.Others.{from_map, in_filter, of_all}
+use Rattle.recorder.specs.Sums as sums
 use Rattle.ctx_rows.specs.Contexts.{Context, context}
-use Rattle.ctx_rows.specs.Folding.{function_of, plain, plain_arc, plain_line}
+use Rattle.ctx_rows.specs.Folding.{plain, plain_arc, plain_line}
 use Rattle.ctx_rows.specs.Rows.{arc_with, arcs_at, ctx_rows_of, is_some_arc, is_some_line, line_with}
 use Rattle.ctx_rows.specs.Since.{AreEntered, StandsOn}
-use Rattle.ctx_rows.specs.Sums.{CtxArcKey, CtxPlace, arc_calls, arc_cost, arc_order, counts_at, ctx_arc, ctx_arc_of}
-use Rattle.ctx_rows.specs.Sums.{ctx_arcs}
-use Rattle.ctx_rows.specs.Sums.{place_order, pushed_arc, self_cost}
-use Rattle.ctx_rows.specs.declared.rows.CtxArc.{CtxArc}
-use Rattle.ctx_rows.specs.declared.rows.CtxLine.{CtxLine}
-use Rattle.ctx_rows.proofs.FoldedLemmas as folded
-use Rattle.ctx_rows.proofs.OrderLemmas as ties
+use Rattle.ctx_rows.specs.Sums.{CtxArcKey, CtxPlace, arc_calls, arc_cost, arc_order, counts_at, ctx_arc_of, ctx_arcs}
+use Rattle.ctx_rows.specs.Sums.{place_order, pushed_arc, same_arc, same_place, self_cost}
+use Rattle.ctx_rows.proofs.FoldedLemmas.{by_context}
+use Rattle.ctx_rows.proofs.ShareLemmas as share
+use Rattle.ctx_rows.proofs.ShareLemmas.{by_place, from_of, froms_on}
+use Rattle.ctx_rows.proofs.StackLemmas.{entered_after}
 
--- a context that is a function
-abbrev IsSingle : Context → Type 0
-IsSingle c = (f : ℕ) × (c ≡ f ∷ [])
+-- ---- a function as a context
 
-single_order : (f g : ℕ) → slice_cmp nat_cmp (f ∷ []) (g ∷ []) ≡ nat_cmp f g
-single_order f g = by (nat_cmp f g)
-  where
-    by : (o : Ordering) → ordering_then o Equal ≡ o
-    by Less = refl
-    by Equal = refl
-    by Greater = refl
+abbrev single : FuncId → Context
+single f = f.0 ∷ []
 
-of_order : (c d : Context) → IsSingle c → IsSingle d
-    → slice_cmp nat_cmp c d ≡ nat_cmp (function_of c).0 (function_of d).0
-of_order c d one other =
-    (λ i. slice_cmp nat_cmp (one.1 i) (other.1 i)) ∙ single_order one.0 other.0
-    ∙ (λ i. nat_cmp (function_of (sym one.1 i)).0 (function_of (sym other.1 i)).0)
+abbrev in_single : Place → CtxPlace
+in_single p = record { ctx = single p.func; file = p.file; line = p.line }
 
-abbrev plain_place : CtxPlace → Place
-plain_place p = record { func = function_of p.ctx; file = p.file; line = p.line }
+abbrev of_single : ArcKey → CtxArcKey
+of_single k = record { caller = single k.caller; file = k.file; line = k.line; callee = single k.callee }
 
-abbrev plain_key : CtxArcKey → ArcKey
-plain_key k = record { caller = function_of k.caller; file = k.file; line = k.line; callee = function_of k.callee }
+last_equal : (o : Ordering) → ordering_then o Equal ≡ o
+last_equal Less = refl
+last_equal Equal = refl
+last_equal Greater = refl
 
-abbrev IsSinglePlace : CtxPlace → Type 0
-IsSinglePlace p = IsSingle p.ctx
+last_true : (b : Bool) → b && true ≡ b
+last_true true = refl
+last_true false = refl
 
-abbrev IsSingleArc : CtxArcKey → Type 0
-IsSingleArc k = IsSingle k.caller × IsSingle k.callee
-
-places_order : (p q : CtxPlace) → IsSinglePlace p → IsSinglePlace q
-    → place_order p q ≡ order.place_order (plain_place p) (plain_place q)
-places_order p q one other =
+places_order : (p q : Place) → place_order (in_single p) (in_single q) ≡ order.place_order p q
+places_order p q =
     ap (λ o. ordering_then o (ordering_then (nat_cmp p.file.0 q.file.0) (nat_cmp p.line q.line)))
-    (of_order p.ctx q.ctx one other)
+    (last_equal (nat_cmp p.func.0 q.func.0))
 
-arcs_order : (k q : CtxArcKey) → IsSingleArc k → IsSingleArc q
-    → arc_order k q ≡ order.arc_order (plain_key k) (plain_key q)
-arcs_order k q one other =
-    λ i. ordering_then (of_order k.caller q.caller one.0 other.0 i)
+arcs_order : (k q : ArcKey) → arc_order (of_single k) (of_single q) ≡ order.arc_order k q
+arcs_order k q = λ i. ordering_then (last_equal (nat_cmp k.caller.0 q.caller.0) i)
     (ordering_then (nat_cmp k.file.0 q.file.0)
-    (ordering_then (nat_cmp k.line q.line) (of_order k.callee q.callee one.1 other.1 i)))
+    (ordering_then (nat_cmp k.line q.line) (last_equal (nat_cmp k.callee.0 q.callee.0) i)))
 
--- ---- keys that rise, and rows of them
+places_same : (p q : Place) → same_place (in_single p) (in_single q) ≡ order.same_place p q
+places_same p q = ap (λ b. b && (p.file.0 == q.file.0 && p.line == q.line)) (last_true (p.func.0 == q.func.0))
 
--- keys of one kind rise where those that they stand for do
-module _ {K CK : Type 0} (R : K → K → Ordering) (total : IsTotalOrder R) (only : IsAntisymmetric R)
-    (S : CK → CK → Ordering) (all : IsTotalOrder S) (same : IsAntisymmetric S) (f : CK → K) (Single : CK → Type 0)
-    (alike : (k q : CK) → Single k → Single q → S k q ≡ R (f k) (f q)) where
-  pub rises_plain : (ks : List CK) → rise.Rises S all same ks → ((k : CK) → IsIn ks k → Single k)
-      → rise.Rises R total only (map f ks)
-  rises_plain [] rises singles = tt
-  rises_plain (k ∷ ks) rises singles = (
-    λ q there.
-        (let p = from_map f ks q there in
-        subst (λ j. R (f k) j ≡ Less) p.2
-        (sym (alike k p.0 (singles k (inl refl)) (singles p.0 (inr p.1))) ∙ rises.0 p.0 p.1)),
-    rises_plain ks rises.1 (λ q there. singles q (inr there)),
-  )
+arcs_same : (k q : ArcKey) → same_arc (of_single k) (of_single q) ≡ order.same_arc k q
+arcs_same k q = λ i. last_true (k.caller.0 == q.caller.0) i
+    && (k.file.0 == q.file.0 && (k.line == q.line && last_true (k.callee.0 == q.callee.0) i))
 
--- the keys of rows that are left rise as all keys do
-module _ {K CK CRow Row : Type 0} (R : K → K → Ordering) (total : IsTotalOrder R) (only : IsAntisymmetric R)
-    (f : CK → K) (at : CK → CRow) (plain_row : CRow → Row) (key : Row → K) (some : CRow → Bool)
-    (key_is : (k : CK) → key (plain_row (at k)) ≡ f k) where
-  kept_in : (ks : List CK) (q : K) → IsIn (map key (map plain_row (filter some (map at ks)))) q → IsIn (map f ks) q
-  kept_in [] q there = elim there [ ]
-  kept_in (k ∷ ks) q there = by (some (at k)) (λ later. kept_in ks q later) there
+-- ---- rows of keys that stand for others, in the same order
+
+module _ {K C : Type 0} (R : K → K → Ordering) (S : C → C → Ordering) (f : K → C)
+    (alike : (k q : K) → S (f k) (f q) ≡ R k q) where
+  put_same : (ks : List K) (k : K) → insert_key S (map f ks) (f k) ≡ map f (insert_key R ks k)
+  put_same [] k = refl
+  put_same (x ∷ ks) k =
+      ap (λ o. match_ordering o (f k ∷ f x ∷ map f ks) (f x ∷ map f ks) (f x ∷ insert_key S (map f ks) (f k))) (alike k x)
+      ∙ by (R k x) (put_same ks k)
     where
-      by : (b : Bool)
-          → (IsIn (map key (map plain_row (filter some (map at ks)))) q → IsIn (map f ks) q)
-          → IsIn (map key (map plain_row (if b then at k ∷ filter some (map at ks) else filter some (map at ks)))) q
-          → IsIn (f k ∷ map f ks) q
-      by true rest (inl is) = inl (sym (key_is k) ∙ is)
-      by true rest (inr later) = inr (rest later)
-      by false rest later = inr (rest later)
+      by : (o : Ordering) → insert_key S (map f ks) (f k) ≡ map f (insert_key R ks k)
+          → match_ordering o (f k ∷ f x ∷ map f ks) (f x ∷ map f ks) (f x ∷ insert_key S (map f ks) (f k))
+          ≡ map f (match_ordering o (k ∷ x ∷ ks) (x ∷ ks) (x ∷ insert_key R ks k))
+      by Less rest = refl
+      by Equal rest = refl
+      by Greater rest = ap (λ cs. f x ∷ cs) rest
 
-  pub rises_kept : (ks : List CK) → rise.Rises R total only (map f ks)
-      → rise.Rises R total only (map key (map plain_row (filter some (map at ks))))
-  rises_kept [] rises = tt
-  rises_kept (k ∷ ks) rises = by (some (at k)) (rises_kept ks rises.1)
-    where
-      by : (b : Bool) → rise.Rises R total only (map key (map plain_row (filter some (map at ks)))) → rise.Rises R total only
-          (map key (map plain_row (if b then at k ∷ filter some (map at ks) else filter some (map at ks))))
-      by true rest = (
-        λ q there. subst (λ j. R j q ≡ Less) (sym (key_is k)) (rises.0 q (kept_in ks q there)),
-        rest,
-      )
-      by false rest = rest
+  risen_same : (ks : List K) → risen S (map f ks) ≡ map f (risen R ks)
+  risen_same [] = refl
+  risen_same (k ∷ ks) = ap (λ cs. insert_key S cs (f k)) (risen_same ks) ∙ put_same (risen R ks) k
 
--- none of those that are left is all 0
-module _ {CRow Row : Type 0} (some : CRow → Bool) (plain_row : CRow → Row) (some_row : Row → Bool)
-    (some_is : (r : CRow) → some_row (plain_row r) ≡ some r) where
-  pub some_again : (rs : List CRow) → filter some_row (map plain_row (filter some rs)) ≡ map plain_row (filter some rs)
-  some_again [] = refl
-  some_again (r ∷ rs) = by (some r) refl (some_again rs)
-    where
-      by : (b : Bool) → some r ≡ b
-          → filter some_row (map plain_row (filter some rs)) ≡ map plain_row (filter some rs)
-          → filter some_row (map plain_row (if b then r ∷ filter some rs else filter some rs))
-          ≡ map plain_row (if b then r ∷ filter some rs else filter some rs)
-      by false is rest = rest
-      by true is rest =
-          ap (λ c. if c then plain_row r ∷ filter some_row (map plain_row (filter some rs))
-          else filter some_row (map plain_row (filter some rs))) (some_is r ∙ is)
-          ∙ ap (λ (qs : List Row). plain_row r ∷ qs) rest
+  module _ {Row Fine : Type 0} (at : K → Row) (some : Row → Bool) (fine : C → Fine) (some_fine : Fine → Bool)
+      (read : Fine → Row) (some_is : (r : Fine) → some (read r) ≡ some_fine r)
+      (is : (k : K) → read (fine (f k)) ≡ at k) where
+    each_row : (ks : List K) → map read (map fine (map f ks)) ≡ map at ks
+    each_row [] = refl
+    each_row (k ∷ ks) = λ i. is k i ∷ each_row ks i
 
--- ---- the contexts of events
+    rows_same : (cs : List C) (ks : List K) → cs ≡ map f ks
+        → map read (filter some_fine (map fine (risen S cs))) ≡ filter some (map at (risen R ks))
+    rows_same cs ks same =
+        ap (λ us. map read (filter some_fine (map fine us))) (ap (risen S) same ∙ risen_same ks)
+        ∙ sym (filter-map read some some_fine some_is (map fine (map f (risen R ks))))
+        ∙ ap (filter some) (each_row (risen R ks))
 
-stack_single : (s : Stack) (func : FuncId) → top_of s ≡ Some func → IsSingle (context 0 s)
-stack_single [] func top = absurd (cc)
-stack_single (a ∷ s) func top = (a.func.0, refl)
+-- ---- events
 
--- the arcs of a stack
-abbrev From : Activation → Stack → Option ArcKey → Type 0
-From a s o = IfSome o (λ arc. (arc.callee ≡ a.func) × (top_of s ≡ Some arc.caller))
+top_single : (s : Stack) (f : FuncId) → top_of s ≡ Some f → context 0 s ≡ single f
+top_single [] f is = absurd (cc)
+top_single (a ∷ s) f is = ap single (some_same is)
+  where
+    some_same : ◌≡◌ {A = Option FuncId} (Some a.func) (Some f) → a.func ≡ f
+    some_same e = cc
 
-abbrev named : Activation → Stack → Option ArcKey → Option CtxArcKey
-named a s o = option_map (λ (arc : ArcKey). record {
-  caller = context 0 s;
+arc_single : (a : Activation) (s : Stack) (o : Option ArcKey)
+    → IfSome o (λ arc. (arc.callee ≡ a.func) × (top_of s ≡ Some arc.caller))
+    → option_map of_single o ≡ option_map (λ (arc : ArcKey). record {
+      caller = context 0 s;
+      file = arc.file;
+      line = arc.line;
+      callee = context 0 (a ∷ s);
+    }) o
+arc_single a s None from = refl
+arc_single a s (Some arc) from = λ i. Some (record {
+  caller = sym (top_single s arc.caller from.1) i;
   file = arc.file;
   line = arc.line;
-  callee = context 0 (a ∷ s);
-}) o
+  callee = single (from.0 i);
+})
 
-entered_from : (n : SymbolMap) (e : Event) (kind : Kind) (s : Stack) → From (new_activation n e kind s) s (new_activation n e kind s).arc
-entered_from n e kind [] = tt
-entered_from n e kind (b ∷ s) = (refl, refl)
+froms_single : (s : Stack) → AreEntered s → map (option_map of_single) (froms_on s) ≡ ctx_arcs 0 s
+froms_single [] all = refl
+froms_single (a ∷ s) all = λ i. arc_single a s a.arc all.0 i ∷ froms_single s all.2 i
 
-arc_single : (a : Activation) (s : Stack) (o : Option ArcKey) → From a s o → (k : CtxArcKey)
-    → IsIn (option_to_list (named a s o)) k → IsSingleArc k
-arc_single a s None from k there = elim there [ ]
-arc_single a s (Some arc) from k (inl is) =
-    subst IsSingleArc is (stack_single s arc.caller from.1, (a.func.0, refl))
-arc_single a s (Some arc) from k (inr none) = elim none [ ]
-
-under_single : (s : Stack) → AreEntered s → (k : CtxArcKey) → IsIn (flat_map option_to_list (ctx_arcs 0 s)) k
-    → IsSingleArc k
-under_single [] all k there = elim there [ ]
-under_single (a ∷ s) all k there =
-    by (λ later. under_single s all.2 k later) (from_append (option_to_list (ctx_arc 0 a s)) (flat_map option_to_list (ctx_arcs 0 s)) k there)
+pushed_single : (n : SymbolMap) (e : Event) (s : Stack) → AreEntered s
+    → option_map of_single (from_of (change n e s).pushed) ≡ pushed_arc 0 (change n e s)
+pushed_single n e s all = by (change n e s).pushed (entered_after n e s all)
   where
-    by : (IsIn (flat_map option_to_list (ctx_arcs 0 s)) k → IsSingleArc k)
-        → IsIn (option_to_list (ctx_arc 0 a s)) k ⊎ IsIn (flat_map option_to_list (ctx_arcs 0 s)) k → IsSingleArc k
-    by rest (inl here) = arc_single a s a.arc all.0 k here
-    by rest (inr later) = rest later
+    by : (p : Option Activation) → AreEntered (with_pushed p (change n e s).rest)
+        → option_map of_single (from_of p) ≡ ctx_arc_of 0 p (change n e s).rest
+    by None entered = refl
+    by (Some a) entered = arc_single a (change n e s).rest a.arc entered.0
 
-pushed_single : (n : SymbolMap) (e : Event) (s : Stack) (k : CtxArcKey)
-    → IsIn (option_to_list (pushed_arc 0 (change n e s))) k → IsSingleArc k
-pushed_single n e s k there = by (change_push n e s)
+-- the keys of arcs
+of_option : (o : Option ArcKey) → option_to_list (option_map of_single o) ≡ map of_single (option_to_list o)
+of_option None = refl
+of_option (Some k) = refl
+
+of_froms : (s : Stack)
+    → flat_map option_to_list (map (option_map of_single) (froms_on s)) ≡ map of_single (events.arcs_of s)
+of_froms [] = refl
+of_froms (a ∷ s) =
+    (λ i. of_option a.arc i ++ of_froms s i) ∙ sym (map-append of_single (option_to_list a.arc) (events.arcs_of s))
+
+of_pushed : (p : Option Activation)
+    → option_to_list (option_map of_single (from_of p)) ≡ map of_single (events.arcs_of (option_to_list p))
+of_pushed None = refl
+of_pushed (Some a) = by a.arc
   where
-    by : ((change n e s).pushed ≡ None)
-        ⊎ ((kind : Kind) × ((change n e s).pushed ≡ Some (new_activation n e kind (change n e s).rest)) × (is_root kind ≡ false))
-        → IsSingleArc k
-    by (inl none) =
-        absurd (no_one (subst (λ (o : Option Activation). IsIn (option_to_list
-        (ctx_arc_of 0 o (change n e s).rest)) k) none there))
-      where
-        no_one : IsIn {A = CtxArcKey} [] k → ⊥
-        no_one h = elim h [ ]
-    by (inr p) =
-        let a = new_activation n e p.0 (change n e s).rest in
-        arc_single a (change n e s).rest a.arc (entered_from n e p.0 (change n e s).rest) k
-        (subst (λ (o : Option Activation). IsIn (option_to_list (ctx_arc_of 0 o (change n e s).rest)) k) p.1 there)
+    by : (o : Option ArcKey) → option_to_list (option_map of_single o) ≡ map of_single (option_to_list o ++ [])
+    by None = refl
+    by (Some k) = refl
 
--- ---- the rows
+module _ (n : SymbolMap) where
+  abbrev Folds : EventOnStack → Type 0
+  Folds x = share.Folds (by_place n) (by_context 0 n) in_single of_single x x
 
-module _ (n : SymbolMap) (xs : List EventOnStack) (stand : AllByRecursion (StandsOn n) xs) where
-  on : (x : EventOnStack) → IsIn xs x → StandsOn n x
-  on x there = of_all (StandsOn n) xs stand x there
-
-  abbrev place_keys : List CtxPlace
-  place_keys = risen place_order (map (counts_at 0 n) xs)
-
-  abbrev line_as : CtxPlace → CtxLine
-  line_as = line_with (λ kind p. self_cost 0 n kind p xs)
-
-  place_single : (p : CtxPlace) → IsIn place_keys p → IsSinglePlace p
-  place_single p there =
-      let x = from_map (counts_at 0 n) xs p
-      (rise.risen_in place_order ties.place_total ties.place_only (map (counts_at 0 n) xs) p there) in
-      subst IsSinglePlace x.2 (stack_single x.0.stack _ (on x.0 x.1).top)
-
-  abbrev arc_keys : List CtxArcKey
-  arc_keys = risen arc_order (flat_map (arcs_at 0 n) xs)
-
-  abbrev arc_as : CtxArcKey → CtxArc
-  arc_as = arc_with (λ k. arc_calls 0 n k xs) (λ kind k. arc_cost 0 kind k xs)
-
-  key_single : (k : CtxArcKey) → IsIn arc_keys k → IsSingleArc k
-  key_single k there =
-      let x = from_flat (arcs_at 0 n) xs k
-      (rise.risen_in arc_order ties.arc_total ties.arc_only (flat_map (arcs_at 0 n) xs) k there) in
-      by x.0 (on x.0 x.1).entered
-      (from_append (flat_map option_to_list (ctx_arcs 0 x.0.stack))
-      (option_to_list (pushed_arc 0 (change n x.0.event x.0.stack))) k x.2)
-    where
-      by : (y : EventOnStack) → AreEntered y.stack
-          → IsIn (flat_map option_to_list (ctx_arcs 0 y.stack)) k
-          ⊎ IsIn (option_to_list (pushed_arc 0 (change n y.event y.stack))) k → IsSingleArc k
-      by y all (inl under) = under_single y.stack all k under
-      by y all (inr pushed) = pushed_single n y.event y.stack k pushed
-
-  abbrev rows : Listed
-  rows = plain (ctx_rows_of 0 n xs)
-
-  lines_rise : IsStrictlySortedBy order.place_order (map lines.place_of rows.lines)
-  unfolding ctx_rows_of
-  lines_rise =
-      rise.sorted_from order.place_order place_total place_only (map lines.place_of rows.lines)
-      (rises_kept order.place_order place_total place_only plain_place line_as plain_line lines.place_of is_some_line
-      (λ k. refl) place_keys
-      (rises_plain order.place_order place_total place_only place_order ties.place_total ties.place_only plain_place
-      IsSinglePlace places_order place_keys
-      (rise.risen_rises place_order ties.place_total ties.place_only (map (counts_at 0 n) xs)) place_single))
-
-  arcs_rise : IsStrictlySortedBy order.arc_order (map arcs.arc_of rows.arcs)
-  unfolding ctx_rows_of
-  arcs_rise =
-      rise.sorted_from order.arc_order arc_total arc_only (map arcs.arc_of rows.arcs)
-      (rises_kept order.arc_order arc_total arc_only plain_key arc_as plain_arc arcs.arc_of is_some_arc
-      (λ k. refl) arc_keys
-      (rises_plain order.arc_order arc_total arc_only arc_order ties.arc_total ties.arc_only plain_key
-      IsSingleArc arcs_order arc_keys
-      (rise.risen_rises arc_order ties.arc_total ties.arc_only (flat_map (arcs_at 0 n) xs)) key_single))
-
-  some_lines : filter lines.is_some_line rows.lines ≡ rows.lines
-  unfolding ctx_rows_of
-  some_lines = some_again is_some_line plain_line lines.is_some_line (λ r. refl) (map line_as place_keys)
-
-  some_arcs : filter arcs.is_some_arc rows.arcs ≡ rows.arcs
-  unfolding ctx_rows_of
-  some_arcs = some_again is_some_arc plain_arc arcs.is_some_arc (λ r. refl) (map arc_as arc_keys)
-
-  whole : AreWhole rows
-  unfolding ctx_rows_of
-  whole = record {
-    lines = λ r there.
-        (let q = from_map plain_line (filter is_some_line (map line_as place_keys)) r there in
-        let p = from_map line_as place_keys q.0 (in_filter is_some_line (map line_as place_keys) q.0 q.1).0 in
-        subst (λ (s : LineRow). length s.cost ≡ event_kinds) q.2
-        (subst (λ (s : CtxLine). length s.cost ≡ event_kinds) p.2
-        (length-map-range_with_len (λ kind. self_cost 0 n kind p.0 xs) 0 event_kinds)));
-    arcs = λ r there.
-        (let q = from_map plain_arc (filter is_some_arc (map arc_as arc_keys)) r there in
-        let p = from_map arc_as arc_keys q.0 (in_filter is_some_arc (map arc_as arc_keys) q.0 q.1).0 in
-        subst (λ (s : ArcRow). length s.cost ≡ event_kinds) q.2
-        (subst (λ (s : CtxArc). length s.cost ≡ event_kinds) p.2
-        (length-map-range_with_len (λ kind. arc_cost 0 kind p.0 xs) 0 event_kinds)));
+  folds : (x : EventOnStack) → StandsOn n x → Folds x
+  folds x on = record {
+    cost = refl;
+    spot = λ i. record {
+      ctx = sym (top_single x.stack (place_of n x.event.done.pc).func on.top) i;
+      file = (place_of n x.event.done.pc).file;
+      line = (place_of n x.event.done.pc).line;
+    };
+    froms = froms_single x.stack on.entered;
+    pushed = pushed_single n x.event x.stack on.entered;
   }
 
-  pub single_rows : plain (ctx_rows_of 0 n xs) ≡ rows_of n xs
-  single_rows =
-      rows_are n xs rows
-      (record {
-        lines = λ kind place. folded.listed_sums 0 n xs stand kind place;
-        arcs = λ kind arc. folded.listed_costs 0 n xs stand kind arc;
-        calls = λ arc. folded.listed_calls 0 n xs stand arc;
-        lines_rise = lines_rise;
-        arcs_rise = arcs_rise;
-        some_lines = some_lines;
-        some_arcs = some_arcs;
-      })
-      whole
+  abbrev AllFold : List EventOnStack → Type 0
+  AllFold xs = share.AllFold (by_place n) (by_context 0 n) in_single of_single xs xs
+
+  all_fold : (xs : List EventOnStack) → AllByRecursion (StandsOn n) xs → AllFold xs
+  all_fold [] stand = tt
+  all_fold (x ∷ xs) stand = (folds x stand.0, all_fold xs stand.1)
+
+  places_at : (xs : List EventOnStack) → AllFold xs
+      → map (counts_at 0 n) xs ≡ map in_single (map (λ x. place_of n x.event.done.pc) xs)
+  places_at [] all = refl
+  places_at (x ∷ xs) all = λ i. sym all.0.spot i ∷ places_at xs all.1 i
+
+  keys_at : (xs : List EventOnStack) → AllFold xs
+      → flat_map (arcs_at 0 n) xs ≡ map of_single (flat_map (events.arcs_at n) xs)
+  keys_at [] all = refl
+  keys_at (x ∷ xs) all =
+      (λ i. here i ++ keys_at xs all.1 i)
+      ∙ sym (map-append of_single (events.arcs_at n x) (flat_map (events.arcs_at n) xs))
+    where
+      here : arcs_at 0 n x ≡ map of_single (events.arcs_at n x)
+      here =
+          (λ i. flat_map option_to_list (sym all.0.froms i) ++ option_to_list (sym all.0.pushed i))
+          ∙ (λ i. of_froms x.stack i ++ of_pushed (change n x.event x.stack).pushed i)
+          ∙ sym (map-append of_single (events.arcs_of x.stack)
+          (events.arcs_of (option_to_list (change n x.event x.stack).pushed)))
+
+  -- ---- the rows
+
+  module _ (xs : List EventOnStack) (stand : AllByRecursion (StandsOn n) xs) where
+    all : AllFold xs
+    all = all_fold xs stand
+
+    line_is : (p : Place)
+        → plain_line (line_with (λ kind q. self_cost 0 n kind q xs) (in_single p)) ≡ events.line_at n xs p
+    line_is p = λ i. record { place = p; cost = by_kind (λ kind. cost kind i) }
+      where
+        cost : (kind : ℕ) → self_cost 0 n kind (in_single p) xs ≡ share.line_total (by_place n) kind (order.same_place p) xs
+        cost kind =
+            sym (share.lines_fold (by_place n) (by_context 0 n) in_single of_single kind (same_place (in_single p)) xs xs
+            all)
+            ∙ (λ i. share.line_total (by_place n) kind (λ q. places_same p q i) xs)
+
+    arc_is : (k : ArcKey)
+        → plain_arc (arc_with (λ q. arc_calls 0 n q xs) (λ kind q. arc_cost 0 kind q xs) (of_single k))
+        ≡ events.arc_at n xs k
+    arc_is k = λ i. record { arc = k; calls = calls i; cost = by_kind (λ kind. cost kind i) }
+      where
+        calls : arc_calls 0 n (of_single k) xs ≡ sums.arc_calls n k xs
+        calls =
+            sym (share.calls_fold (by_place n) (by_context 0 n) in_single of_single (same_arc (of_single k)) xs xs all)
+            ∙ (λ i. share.call_total (by_place n) (λ q. arcs_same k q i) xs)
+            ∙ share.plain_calls n k xs
+
+        cost : (kind : ℕ) → arc_cost 0 kind (of_single k) xs ≡ sums.arc_cost kind k xs
+        cost kind =
+            sym (share.arcs_fold (by_place n) (by_context 0 n) in_single of_single kind (same_arc (of_single k)) xs xs
+            all)
+            ∙ (λ i. share.arc_total (by_place n) kind (λ q. arcs_same k q i) xs)
+            ∙ share.plain_arcs n kind k xs
+
+    pub single_rows : plain (ctx_rows_of 0 n xs) ≡ rows_of n xs
+    unfolding ctx_rows_of rows_of
+    single_rows = λ i. record {
+      lines = rows_same order.place_order place_order in_single places_order (events.line_at n xs) lines.is_some_line
+          (line_with (λ kind p. self_cost 0 n kind p xs)) is_some_line plain_line (λ r. refl) line_is
+          (map (counts_at 0 n) xs) (map (λ x. place_of n x.event.done.pc) xs) (places_at xs all) i;
+      arcs = rows_same order.arc_order arc_order of_single arcs_order (events.arc_at n xs) arcs.is_some_arc
+          (arc_with (λ k. arc_calls 0 n k xs) (λ kind k. arc_cost 0 kind k xs)) is_some_arc plain_arc (λ r. refl) arc_is
+          (flat_map (arcs_at 0 n) xs) (flat_map (events.arcs_at n) xs) (keys_at xs all) i;
+    }

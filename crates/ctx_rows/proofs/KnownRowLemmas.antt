@@ -1,18 +1,16 @@
 -- The functions and files of rows by context are those of the map.
-use Rattle.std.proofs.Common.{◌≡◌, ◌⊎◌, inl, inr, ℕ, zero, suc, ◌+◌, ◌<◌, List, [], ◌∷◌, Option, None, Some, IfSome}
-use Rattle.std.proofs.Common.{false, filter, flat_map, length, map, take, refl, sym, subst, arith}
+use Rattle.std.proofs.Common.{◌≡◌, inl, inr, ℕ, zero, suc, ◌+◌, ◌<◌, List, [], ◌∷◌, Option, None, Some, IfSome}
+use Rattle.std.proofs.Common.{filter, flat_map, length, map, take, refl, sym, subst, arith}
 use Rattle.std.specs.List.{AllByRecursion}
 use Rattle.std.specs.Option.{option_map, option_to_list}
 use Rattle.std.proofs.lemmas.List.Elements.{All-from_recursion}
 use Rattle.event_costs.specs.declared.event.Event.{Event}
 use Rattle.event_costs.specs.Keys.{ArcKey}
 use Rattle.sym_map.specs.SymbolMap.{IsFile, IsSound, SymbolMap}
-use Rattle.shadow_stack.specs.Changes.{change, new_activation}
-use Rattle.shadow_stack.specs.Kinds.{is_root}
+use Rattle.shadow_stack.specs.Changes.{change, with_pushed}
 use Rattle.shadow_stack.specs.Stacks.{Activation, Stack, top_of}
 use Rattle.shadow_stack.specs.Traces.{EventOnStack}
-use Rattle.shadow_stack.specs.declared.frame.Kind.{Kind}
-use Rattle.ctx_rows.proofs.Others.{change-end, rooted-some, change_push, in_right, of_all, all_of, from_append}
+use Rattle.ctx_rows.proofs.Others.{change-end, rooted-some, in_right, of_all, all_of, from_append}
 use Rattle.ctx_rows.proofs.Others.{from_flat, in_filter, from_map}
 use Rattle.recorder.specs.Laws.{IsIn}
 use Rattle.arc_costs.specs.Keys.{risen}
@@ -29,6 +27,7 @@ use Rattle.ctx_rows.specs.declared.rows.CtxLine.{CtxLine}
 use Rattle.ctx_rows.proofs.OrderLemmas as ties
 use Rattle.ctx_rows.specs.Since.{AreEntered, StandsOn}
 use Rattle.ctx_rows.proofs.HoldsLemmas.{IsReached}
+use Rattle.ctx_rows.proofs.StackLemmas.{entered_after}
 
 some_taken : (n x : ℕ) (xs : List ℕ) → 0 < length (take (n + 1) (x ∷ xs))
 some_taken n x xs =
@@ -98,41 +97,24 @@ module _ (syms : SymbolMap) (sound : IsSound syms) (callers : ℕ) where
         | inr later ↦ arcs_known s (λ b inside. all b (inr inside)) entered_.2 k later
       ]
 
-  entered_from : (e : Event) (kind : Kind) (s : Stack)
-      → IfSome (new_activation syms e kind s).arc (λ arc. (arc.callee ≡ (new_activation syms e kind s).func)
-      × (top_of s ≡ Some arc.caller))
-  entered_from e kind [] = tt
-  entered_from e kind (b ∷ s) = (refl, refl)
-
-  pushed_arc_known : (e : Event) (s : Stack) → AreKnownIn s → (k : CtxArcKey)
+  pushed_arc_known : (e : Event) (s : Stack) → AreKnownIn s → AreEntered s → (k : CtxArcKey)
       → IsIn (option_to_list (pushed_arc callers (change syms e s))) k → IsKnownKey k
-  pushed_arc_known e s all k there = by (change_push syms e s)
+  pushed_arc_known e s all entered k there =
+      by (change syms e s).pushed (plain.pushed_known syms knows e s all) (entered_after syms e s entered) there
     where
-      kept : AreKnownIn (change syms e s).rest
-      kept = λ b inside. all b
-          (subst (λ u. IsIn u b) (sym (change-end syms e s).whole)
-          (in_right (change-end syms e s).front (change syms e s).rest b inside))
-
-      by : ((change syms e s).pushed ≡ None)
-          ⊎ ((kind : Kind) × ((change syms e s).pushed ≡ Some (new_activation syms e kind (change syms e s).rest))
-          × (is_root kind ≡ false))
-          → IsKnownKey k
-      by (inl none) =
-          elim (subst (λ (o : Option Activation). IsIn (option_to_list (ctx_arc_of callers o (change syms e s).rest)) k)
-          none
-          there) [ ]
-      by (inr p) =
-          let a = new_activation syms e p.0 (change syms e s).rest in
-          let known =
-          plain.pushed_known syms knows e s all a
-          (subst (λ (o : Option Activation). IsIn (option_to_list o) a) (sym p.1) (inl refl)) in
-          arc_known a (change syms e s).rest (on a known) (entered_from e p.0 (change syms e s).rest) k
-          (subst (λ (o : Option Activation). IsIn (option_to_list (ctx_arc_of callers o (change syms e s).rest)) k) p.1
-          there)
-        where
-          on : (a : Activation) → plain.IsKnown syms knows a → AreKnownIn (a ∷ (change syms e s).rest)
-          on a known b (inl is) = subst (plain.IsKnown syms knows) is known
-          on a known b (inr inside) = kept b inside
+      by : (p : Option Activation) → ((a : Activation) → IsIn (option_to_list p) a → plain.IsKnown syms knows a)
+          → AreEntered (with_pushed p (change syms e s).rest)
+          → IsIn (option_to_list (ctx_arc_of callers p (change syms e s).rest)) k → IsKnownKey k
+      by None known on inside = elim inside [ ]
+      by (Some a) known on inside =
+          arc_known a (change syms e s).rest
+          (λ b in_all. elim in_all as (λ _. plain.IsKnown syms knows b) [
+            | inl is ↦ known b (inl is)
+            | inr later ↦
+                all b
+                (subst (λ u. IsIn u b) (sym (change-end syms e s).whole)
+                (in_right (change-end syms e s).front (change syms e s).rest b later))
+          ]) on.0 k inside
 
   module _ (xs : List EventOnStack) (stand : AllByRecursion (StandsOn syms) xs)
       (reached : AllByRecursion (IsReached syms) xs) where
@@ -190,7 +172,7 @@ module _ (syms : SymbolMap) (sound : IsSound syms) (callers : ℕ) where
         (option_to_list (pushed_arc callers (change syms x.0.event x.0.stack))) from.0 x.2) as
         (λ _. IsKnownKey from.0) [
           | inl under ↦ arcs_known x.0.stack (stack_known x.0 x.1) on.entered from.0 under
-          | inr comes ↦ pushed_arc_known x.0.event x.0.stack (stack_known x.0 x.1) from.0 comes
+          | inr comes ↦ pushed_arc_known x.0.event x.0.stack (stack_known x.0 x.1) on.entered from.0 comes
         ] in
         subst (IsKnownArc syms) from.2 (record { caller = key.caller; file = key.file; callee = key.callee })
 

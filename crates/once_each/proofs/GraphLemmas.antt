@@ -20,7 +20,7 @@ use Rattle.call_graph.specs.Reach.{Steps}
 use Rattle.call_graph.specs.declared.arc.CallArc.{CallArc}
 use Rattle.once_each.specs.Graphs.{arcs_of, arcs_pushed, between, graph}
 use Rattle.once_each.specs.Parts.{ThreadRows, ArePartsOf, ArePartsOfTrace, all_arcs}
-use Rattle.once_each.proofs.KeyLemmas.{itself_arc, one_arc}
+use Rattle.once_each.proofs.Others.{arc_alike, arc_itself}
 use Rattle.once_each.proofs.MemberLemmas.{Contains-flat_map, Some_of, count-some, each_at, from_filter, from_flat_map}
 use Rattle.once_each.proofs.MemberLemmas.{le-sum, sum-some, zip_right}
 use Rattle.once_each.proofs.PartLemmas.{all_arcs_where, all_calls_where, cost_of, pushed_by, pushed_stack}
@@ -55,7 +55,7 @@ by_arc arc a is = by a.arc refl is
   where
     by : (o : Option ArcKey) → a.arc ≡ o → option_map_or (same_arc arc) o false ≡ true → IsBy arc a
     by None from is = absurd (cc)
-    by (Some b) from same = record { is = from ∙ ap Some (sym (one_arc arc b same)) }
+    by (Some b) from same = record { is = from ∙ ap Some (sym (arc_alike arc b same)) }
 
 -- some event pushes an arc that isn't called in vain
 called : (syms : SymbolMap) (trace : List CountedEvent) (arc : ArcKey)
@@ -95,7 +95,7 @@ ran syms trace kind arc more =
 -- an activation with this arc counts once
 one_frame : (arc : ArcKey) (a : Activation) → a.arc ≡ Some arc → count_by (on_arc (same_arc arc)) (a ∷ []) ≡ 1
 one_frame arc a is =
-    by (on_arc (same_arc arc) a) (ap (λ (o : Option ArcKey). option_map_or (same_arc arc) o false) is ∙ itself_arc arc)
+    by (on_arc (same_arc arc) a) (ap (λ (o : Option ArcKey). option_map_or (same_arc arc) o false) is ∙ arc_itself arc)
     (count-cons (on_arc (same_arc arc)) a [])
   where
     by : (b : Bool) → b ≡ true → count_by (on_arc (same_arc arc)) (a ∷ []) ≡ number_of b + 0
@@ -144,14 +144,14 @@ module _ (syms : SymbolMap) (trace : List CountedEvent) (parts : List (List Thre
           → Steps (graph syms trace) row.arc.caller.0 row.arc.callee.0
       by (suc calls) is some =
           let mine : row.calls ≡ (if same_arc row.arc row.arc then row.calls else 0)
-          = sym (ap (λ b. if b then row.calls else 0) (itself_arc row.arc)) in
+          = sym (ap (λ b. if b then row.calls else 0) (arc_itself row.arc)) in
           let part = le-sum (λ (r : ArcRow). if same_arc row.arc r.arc then r.calls else 0) (all_arcs parts) row in' in
           called syms trace row.arc
           (omega (arith, is, mine, part, all_calls_where syms trace parts are (same_arc row.arc)))
       by zero is some =
           let cost = some_of_cost row.cost some in
           let mine : get_or row.cost cost.kind 0 ≡ (if same_arc row.arc row.arc then get_or row.cost cost.kind 0 else 0)
-          = sym (ap (λ b. if b then get_or row.cost cost.kind 0 else 0) (itself_arc row.arc)) in
+          = sym (ap (λ b. if b then get_or row.cost cost.kind 0 else 0) (arc_itself row.arc)) in
           let part = le-sum (λ (r : ArcRow). if same_arc row.arc r.arc then get_or r.cost cost.kind 0 else 0)
           (all_arcs parts) row in' in
           let more = cost.more in
@@ -178,7 +178,7 @@ module _ (syms : SymbolMap) (trace : List CountedEvent) (parts : List (List Thre
           let part = le-sum (λ y. count_by (on_arc (same_arc arc)) (pushed_by syms y)) (events_on_stacks syms trace) x in' in
           let found = sum-some (λ (r : ArcRow). if same_arc arc r.arc then r.calls else 0) (all_arcs parts)
           (omega (arith, count, once, part, all_calls_where syms trace parts are (same_arc arc))) in
-          let key = one_arc arc found.item.arc (passes (same_arc arc found.item.arc) found.item.calls found.has) in
+          let key = arc_alike arc found.item.arc (passes (same_arc arc found.item.arc) found.item.calls found.has) in
           record {
             item = found.item;
             among = found.among;

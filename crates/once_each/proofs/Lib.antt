@@ -1,9 +1,8 @@
-mod Others
+pub mod Others
 pub mod BoundLemmas
 pub mod ExchangeLemmas
 pub mod GraphLemmas
 pub mod GroupLemmas
-pub mod KeyLemmas
 pub mod KnownLemmas
 pub mod LawLemmas
 pub mod MemberLemmas

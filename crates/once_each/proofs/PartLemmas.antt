@@ -16,7 +16,8 @@ use Rattle.recorder.specs.Standing.{AreRowsOf}
 use Rattle.recorder.specs.Sums.{of_thread, pushes}
 use Rattle.once_each.specs.Parts.{ThreadRows, ArePartsOf, ArePartsOfTrace, all_arcs, all_lines, is_by}
 use Rattle.once_each.proofs.ExchangeLemmas.{exchange, sum_where}
-use Rattle.once_each.proofs.KeyLemmas.{itself_arc, itself_place, one_arc, one_place}
+use Rattle.once_each.proofs.Others.{arc_alike, arc_itself}
+use Rattle.once_each.proofs.Others.{place_alike, place_itself}
 use Rattle.once_each.proofs.MemberLemmas.{each_from, zip_sums}
 use Rattle.once_each.proofs.StackLemmas.{on_arc}
 use Rattle.once_each.proofs.SumLemmas.{sum_by-each, sum_by-filter, sum_by-flat_map, sum_by-same, sum_by-swap}
@@ -112,14 +113,14 @@ module _ (syms : SymbolMap) (xs : List EventOnStack) (rows : Listed) (are : AreR
       → sum_by (λ row. if test row.place then get_or row.cost kind 0 else 0) rows.lines
       ≡ sum_by (λ x. if test (place_of syms x.event.done.pc) then cost_of kind x else 0) xs
   lines_where test kind =
-      exchange same_place one_place itself_place (λ (row : LineRow). row.place) (λ row. get_or row.cost kind 0)
+      exchange same_place place_alike place_itself (λ (row : LineRow). row.place) (λ row. get_or row.cost kind 0)
       (λ (x : EventOnStack). place_of syms x.event.done.pc) (cost_of kind) test rows.lines xs (λ place. are.lines kind place)
 
   pub arcs_where : (test : ArcKey → Bool) (kind : ℕ)
       → sum_by (λ row. if test row.arc then get_or row.cost kind 0 else 0) rows.arcs
       ≡ sum_by (λ x. cost_of kind x * count_by (on_arc test) x.stack) xs
   arcs_where test kind =
-      exchange same_arc one_arc itself_arc (λ (row : ArcRow). row.arc)
+      exchange same_arc arc_alike arc_itself (λ (row : ArcRow). row.arc)
       (λ row. get_or row.cost kind 0) share_arc share_number test rows.arcs (cost_shares kind xs)
       (λ arc. are.arcs kind arc ∙ sym (cost_shares-sum (same_arc arc) kind xs))
       ∙ cost_shares-sum test kind xs
@@ -128,7 +129,7 @@ module _ (syms : SymbolMap) (xs : List EventOnStack) (rows : Listed) (are : AreR
       → sum_by (λ row. if test row.arc then row.calls else 0) rows.arcs
       ≡ sum_by (λ x. count_by (on_arc test) (pushed_by syms x)) xs
   calls_where test =
-      exchange same_arc one_arc itself_arc (λ (row : ArcRow). row.arc)
+      exchange same_arc arc_alike arc_itself (λ (row : ArcRow). row.arc)
       (λ row. row.calls) share_arc share_number test rows.arcs (call_shares syms xs)
       (λ arc. are.calls arc
       ∙ sum_by-same (λ x. pushes arc (change syms x.event x.stack).pushed)

@@ -1,4 +1,4 @@
-mod Others
+pub mod Others
 pub mod AllPartsLemmas
 pub mod BothLemmas
 pub mod CleanLemmas

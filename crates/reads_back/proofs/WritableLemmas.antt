@@ -29,7 +29,7 @@ use Rattle.recorder.proofs.ArcLaws.{arc_pushed}
 use Rattle.cg_format.specs.Part.{IsKnownLine}
 use Rattle.once_each.specs.Orderly.{IsRunSized}
 use Rattle.once_each.proofs.BoundLemmas.{arc_most, calls_most, self_most}
-use Rattle.once_each.proofs.KeyLemmas.{itself_arc, itself_place, one_arc, one_place}
+use Rattle.once_each.proofs.Others.{arc_alike, arc_itself, place_alike, place_itself}
 use Rattle.once_each.proofs.KnownLemmas.{stacks_of_map}
 use Rattle.once_each.proofs.MemberLemmas.{Contains-filter, from_filter, le-sum, sum-some}
 use Rattle.once_each.proofs.SeenLemmas.{change-entered}
@@ -87,7 +87,7 @@ module _ (m : SymbolMap) (sound : IsSound m) (trace : List CountedEvent) where
         line = (place_of m e.done.pc).line;
         callee = next_func m e;
       } in
-      let same : key ≡ arc = one_arc key arc is in
+      let same : key ≡ arc = arc_alike key arc is in
       subst (IsKnownKey m) (sym same) (record {
         caller = known 0 a (omega arith);
         file = sound.place_files e.done.pc;
@@ -156,7 +156,7 @@ module _ (m : SymbolMap) (sound : IsSound m) (trace : List CountedEvent) where
     line_share row kind there =
         let share = le-sum (λ (r : LineRow). if same_place row.place r.place then get_or r.cost kind 0 else 0)
         rows.lines row there in
-        let own = yes_if (same_place row.place row.place) (get_or row.cost kind 0) (itself_place row.place) in
+        let own = yes_if (same_place row.place row.place) (get_or row.cost kind 0) (place_itself row.place) in
         let sums = is.lines kind row.place in
         omega (arith, share, own, sums)
 
@@ -171,7 +171,7 @@ module _ (m : SymbolMap) (sound : IsSound m) (trace : List CountedEvent) where
         if same_place row.place (place_of m x.event.done.pc) then get_or x.cost number.0 0 else 0) xs
         (omega (arith, share, above)) in (
           found.item.event.done.pc,
-          one_place row.place (place_of m found.item.event.done.pc)
+          place_alike row.place (place_of m found.item.event.done.pc)
               (if_true (same_place row.place (place_of m found.item.event.done.pc))
               (get_or found.item.cost number.0 0) found.has),
         )
@@ -203,14 +203,14 @@ module _ (m : SymbolMap) (sound : IsSound m) (trace : List CountedEvent) where
     arc_share row kind there =
         let share = le-sum (λ (r : ArcRow). if same_arc row.arc r.arc then get_or r.cost kind 0 else 0)
         rows.arcs row there in
-        let own = yes_if (same_arc row.arc row.arc) (get_or row.cost kind 0) (itself_arc row.arc) in
+        let own = yes_if (same_arc row.arc row.arc) (get_or row.cost kind 0) (arc_itself row.arc) in
         let sums = is.arcs kind row.arc in
         omega (arith, share, own, sums)
 
     call_share : (row : ArcRow) → Contains rows.arcs row → row.calls ≤ arc_calls m row.arc xs
     call_share row there =
         let share = le-sum (λ (r : ArcRow). if same_arc row.arc r.arc then r.calls else 0) rows.arcs row there in
-        let own = yes_if (same_arc row.arc row.arc) row.calls (itself_arc row.arc) in
+        let own = yes_if (same_arc row.arc row.arc) row.calls (arc_itself row.arc) in
         let sums = is.calls row.arc in
         omega (arith, share, own, sums)
 

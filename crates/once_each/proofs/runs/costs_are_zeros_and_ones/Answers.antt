@@ -1,4 +1,4 @@
-use Rattle.cache_lru.proofs.HistoryLemmas.{event_cost-ones}
+use Rattle.once_each.proofs.Others.{event_cost-ones}
 use Rattle.once_each.proofs.TakenLemmas.{cost_whole}
 use Rattle.once_each.proofs.runs.costs_are_zeros_and_ones.Goals as goal
 
