@@ -1,45 +1,14 @@
 //! The places of addresses that stand for their files and lines.
 
 ghost use Rattle.std.specs.Prelude.{◌≡◌, IfOk};
-ghost use Rattle.addr_rows.specs.EventRows.{located_rows, located_arc, located_line};
+ghost use Rattle.addr_rows.specs.EventRows.{located_rows};
 
-use addr_rows::{AddrArc, AddrLine, AddrRows};
-use arc_costs::{ArcRow, LineRow, TableRows};
+use addr_rows::{AddrRows, located_arc, located_line};
+use arc_costs::TableRows;
 use byte_text::OutOfMemory;
-use event_costs::{ArcKey, ThreadNo};
+use event_costs::ThreadNo;
 use std::alloc::Global;
 use sym_map::SymMap;
-
-/// A line row with the place of its address.
-fn located_line(row: &LineRow, syms: &SymMap) -> AddrLine
-    ensures { result ≡ located_line syms.now row.now }
-{
-    let addr = row.place.line;
-    AddrLine {
-        addr,
-        place: syms.place(addr),
-        cost: row.cost,
-    }
-}
-
-/// An arc row with the file and line of its address.
-fn located_arc(row: &ArcRow, syms: &SymMap) -> AddrArc
-    ensures { result ≡ located_arc syms.now row.now }
-{
-    let addr = row.arc.line;
-    let place = syms.place(addr);
-    AddrArc {
-        addr,
-        arc: ArcKey {
-            caller: row.arc.caller,
-            file: place.file,
-            line: place.line,
-            callee: row.arc.callee,
-        },
-        calls: row.calls,
-        cost: row.cost,
-    }
-}
 
 /// Rows in which an address stands for its file and line, with the places of the addresses.
 pub(crate) fn located_rows(

@@ -4,8 +4,7 @@ ghost use Rattle.std.specs.Prelude.{IfOk, ◌≡◌};
 ghost use Rattle.addr_rows.specs.Translated.{CanTranslate, IsAddressMapOf, translation};
 ghost use Rattle.addr_costs.specs.inner.TextsLaw.{texts_keep_room, texts_last};
 
-use crate::placing::located_rows;
-use addr_rows::write_addr;
+use addr_rows::write_located;
 use arc_costs::TableRows;
 use byte_text::{OutOfMemory, Text};
 use cg_format::PartHead;
@@ -75,7 +74,6 @@ impl Watch for AddrTexts {
         _syms: &SymMap,
     ) -> Result<Text, OutOfMemory> {
         maps_are_sound(&self.syms);
-        let rows = located_rows(self.alloc, head.thread, rows, &self.syms)?;
-        write_addr(self.alloc, head, &rows, &self.syms)
+        write_located(self.alloc, head, rows, &self.syms)
     }
 }

@@ -20,7 +20,7 @@ use Rattle.ctx_rows.specs.Since as contexts_since
 use Rattle.ctx_rows.specs.States as contexts
 use Rattle.ctx_rows.specs.Watching.{by_context}
 use Rattle.ctx_rows.proofs.CallLemmas as told
-use Rattle.addr_rows.proofs.Others.{since_append, since_by, steps_after_are, IsReached, true_false}
+use Rattle.addr_rows.proofs.Others.{since_append, since_by, steps_after_are, IsReached}
 use Rattle.ctx_rows.proofs.HoldsLemmas as oracle
 use Rattle.ctx_rows.proofs.LastLemmas as oracle_last
 use Rattle.addr_rows.specs.EventRows.{addr_rows_of, located_rows}

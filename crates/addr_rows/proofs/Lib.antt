@@ -1,5 +1,6 @@
 mod Others
 pub mod KnownLemmas
+pub mod RefLemmas
 pub mod TextLemmas
 pub mod AddressMapLemmas
 pub mod AlikeLemmas

@@ -5,6 +5,7 @@
 
 mod folding;
 mod laws;
+mod located;
 mod plain;
 mod row;
 mod rows;
@@ -15,7 +16,8 @@ pub use laws::{
     a_call_that_goes_on_may_be_made, addresses_are_lines, parts_have_the_rows_of_their_events,
     rows_are_those_of_the_events,
 };
+pub use located::{located_arc, located_line};
 pub use plain::plain_rows;
 pub use row::AddrRow;
 pub use rows::{AddrArc, AddrLine, AddrRows};
-pub use writing::write_addr;
+pub use writing::{write_addr, write_located};

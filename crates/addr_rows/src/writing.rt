@@ -5,18 +5,19 @@ ghost use Rattle.event_costs.specs.Costs.{IsWhole, events_shown};
 ghost use Rattle.sym_map.specs.SymbolMap.{IsFunc, SymbolMap};
 ghost use Rattle.cg_format.specs.Marks.{Mark, Plain};
 ghost use Rattle.cg_format.specs.Standing.{WriterState};
+ghost use Rattle.addr_rows.specs.EventRows.{located_rows};
 ghost use Rattle.addr_rows.specs.Known.{AreKnown};
 ghost use Rattle.addr_rows.specs.Texts.{IsKnown, addr_text, after_row, calls_text, cost_text_at, entry_position};
 ghost use Rattle.addr_rows.specs.Texts.{heading, position, row_lines};
 ghost use Rattle.addr_rows.specs.declared.row.AddrRow.TheVariants as rows;
+ghost use Rattle.addr_rows.specs.inner.Refs.{listed};
 
-use crate::plain::plain_rows;
-use crate::row::{AddrRow, plain_row, rows_by_function};
+use crate::row::{AddrRow, Rows};
 use crate::rows::{AddrArc, AddrRows};
+use arc_costs::TableRows;
 use byte_text::{OutOfMemory, Text};
 use cg_format::{
     FileKey, PartHead, Writer, put_description, put_identity, put_place, put_summary, put_totals,
-    sum_of_lines,
 };
 use event_costs::{Cost, FuncId, Number};
 use std::alloc::Global;
@@ -112,7 +113,7 @@ fn put_row(
     ensures { (before : List Mark) → WriterState syms.now before writer.old
         → OnOk result (WriterState syms.now (after_row head.now syms.now before row.now) writer.new) }
 {
-    put_place(alloc, writer, head, syms, &plain_row(row))?;
+    put_place(alloc, writer, head, syms, &row.plain())?;
     match row {
         AddrRow::Line(row) => {
             let costs = cost_text(alloc, head, row.addr, row.place.line, &row.cost)?;
@@ -139,6 +140,28 @@ fn put_heading(
     put_summary(writer, head, sum)
 }
 
+/// Writes the text of a part.
+fn write_rows(
+    alloc: Global,
+    head: &PartHead,
+    rows: &Rows,
+    syms: &SymMap,
+) -> Result<Text, OutOfMemory>
+    requires { AreKnown syms.now (listed syms.now rows.now) }
+    ensures { IfOk result (λ text. text ≡ addr_text head.now (listed syms.now rows.now) syms.now) }
+{
+    let sum = rows.sum(alloc)?;
+    let sorted = rows.by_function(alloc, syms)?;
+    let mut writer = Writer::new(alloc);
+    put_heading(alloc, &mut writer, head, &sum)?;
+    'refs: for place in &sorted {
+        let row = rows.row(place.index, syms);
+        put_row(alloc, &mut writer, head, syms, &row)?;
+    }
+    put_totals(&mut writer, head, &sum)?;
+    Ok(writer.into_text())
+}
+
 /// The text of a part in Callgrind's format, version 1, with the address before each line: its head, and the rows by
 /// rising function; those of a function stay in their order. Each function and file of the rows is one of the map.
 pub fn write_addr(
@@ -150,14 +173,19 @@ pub fn write_addr(
     requires { AreKnown syms.now rows.now.rows }
     ensures { IfOk result (λ text. text ≡ addr_text head.now rows.now.rows syms.now) }
 {
-    let plain = plain_rows(alloc, rows)?;
-    let sum = sum_of_lines(&plain.lines);
-    let sorted = rows_by_function(alloc, rows)?;
-    let mut writer = Writer::new(alloc);
-    put_heading(alloc, &mut writer, head, &sum)?;
-    'rows: for row in &sorted {
-        put_row(alloc, &mut writer, head, syms, &row.copied())?;
-    }
-    put_totals(&mut writer, head, &sum)?;
-    Ok(writer.into_text())
+    write_rows(alloc, head, &Rows::Placed(rows), syms)
+}
+
+/// The text of a part as `write_addr` writes it, of rows in which an address stands for its file and line. No row is
+/// copied.
+pub fn write_located(
+    alloc: Global,
+    head: &PartHead,
+    rows: &TableRows,
+    syms: &SymMap,
+) -> Result<Text, OutOfMemory>
+    requires { AreKnown syms.now (located_rows syms.now rows.now) }
+    ensures { IfOk result (λ text. text ≡ addr_text head.now (located_rows syms.now rows.now) syms.now) }
+{
+    write_rows(alloc, head, &Rows::ByAddress(rows), syms)
 }
