@@ -1,16 +1,16 @@
 -- The rows of a thread are those that a state has of it.
-use Rattle.std.proofs.Common.{◌≡◌, inl, inr, ℕ, Bool, true, false, List, [], ◌∷◌, ◌++◌, All, filter, length}
-use Rattle.std.proofs.Common.{map, refl, sym, ap, subst, ◌∙◌, arith, Result, Ok, Err, IfOk}
-use Rattle.std.proofs.lemmas.List.Sorted.{IsPermutation-refl}
+use Rattle.std.proofs.Common.{◌≡◌, inl, inr, ℕ, ◌+◌, Bool, true, List, [], ◌∷◌, ◌++◌, All, filter, get_or, length}
+use Rattle.std.proofs.Common.{map, sym, ap, subst, ◌∙◌, arith}
+use Rattle.std.specs.List.Sorted.{IsSortedBy}
+use Rattle.std.proofs.lemmas.List.{get_or-map, length-map}
 use Rattle.event_costs.specs.Costs.{IsWhole, event_kinds}
-use Rattle.event_costs.specs.Keys.{ArcKey, Place}
+use Rattle.event_costs.specs.Keys.{ArcKey}
 use Rattle.event_costs.specs.declared.numbers.ThreadNo.{ThreadNo}
 use Rattle.shadow_stack.specs.Frames.{closings}
 use Rattle.arc_costs.specs.Arcs as arcs
 use Rattle.arc_costs.specs.Contents.{Listed}
 use Rattle.arc_costs.specs.Lines as lines
 use Rattle.event_costs.specs.Order as order
-use Rattle.arc_costs.specs.Rows as rows
 use Rattle.arc_costs.specs.Rows.{ArcRow, LineRow}
 use Rattle.recorder.specs.Laws.{IsIn}
 use Rattle.recorder.specs.Notes.{rows_of_tellings}
@@ -21,13 +21,13 @@ use Rattle.recorder.proofs.ArcRowLemmas as plain_arcs
 use Rattle.recorder.proofs.LineLemmas as plain
 use Rattle.arc_costs.proofs.RiseLemmas as rise
 use Rattle.ctx_rows.specs.Contexts.{Context, AreDistinct}
-use Rattle.ctx_rows.specs.Telling.{named_arc, named_line, rows_in, rows_of_track}
-use Rattle.ctx_rows.specs.Rows.{CtxListed, OfThread, arc_of, place_of}
+use Rattle.ctx_rows.specs.Telling.{rows_in, rows_of_track}
+use Rattle.ctx_rows.specs.Rows.{CtxListed, arc_of, place_of}
 use Rattle.ctx_rows.specs.Sums.{arc_order, place_order, same_arc, same_place}
 use Rattle.ctx_rows.specs.States.{CtxState, Track, track}
 use Rattle.ctx_costs.specs.inner.Naming.{AreNamedRows}
 use Rattle.ctx_costs.specs.inner.Tracks.{IsSound}
-use Rattle.ctx_rows.specs.Tracks.{IsArcOf, IsNumber, account_of}
+use Rattle.ctx_rows.specs.Tracks.{IsArcOf, account_of}
 use Rattle.ctx_costs.proofs.FoundLemmas as found_rows
 use Rattle.ctx_rows.proofs.OrderLemmas as ties
 use Rattle.ctx_rows.proofs.RisingLemmas as rising
@@ -41,18 +41,18 @@ all_in P xs x all there =
 some_in : {X : Type 0} (test : X → Bool) (xs : List X) (x : X) → filter test xs ≡ xs → IsIn xs x → test x ≡ true
 some_in test xs x is there = (in_filter test xs x (subst (λ ys. IsIn ys x) (sym is) there)).1
 
-true_false : true ≡ false → ⊥
-true_false e = cc
-
-has_some : {R K : Type 0} (key : R → K) (same : K → K → Bool) (k : K) (rs : List R)
-    → rows.has_row key same k rs ≡ true → (r : R) × IsIn rs r × (same k (key r) ≡ true)
-has_some key same k [] there = absurd (true_false (sym there))
-has_some {R} key same k (r ∷ rs) there =
-    elim (true_of_or (same k (key r)) (rows.has_row key same k rs) there)
-    as (λ _. (q : R) × IsIn (r ∷ rs) q × (same k (key q) ≡ true)) [
-      | inl is ↦ (r, inl refl, is)
-      | inr later ↦ (let q = has_some key same k rs later in (q.0, inr q.1, q.2))
-    ]
+-- rows that are sorted by what they are named
+pub sorted_map : {X Y : Type 0} (f : X → Y) (lt : Y → Y → Bool) (xs : List X) → IsSortedBy (λ a b. lt (f a) (f b)) xs
+    → IsSortedBy lt (map f xs)
+sorted_map f lt [] sorted = λ k d low less. absurd (omega (arith, less))
+sorted_map f lt (x ∷ xs) sorted = λ k d low less.
+    let size = length-map (x ∷ xs) f in
+    let one : get_or (map f (x ∷ xs)) k d ≡ f (get_or (x ∷ xs) k x)
+    = get_or-map f (x ∷ xs) k x d (omega (arith, size, less)) in
+    let two : get_or (map f (x ∷ xs)) (k + 1) d ≡ f (get_or (x ∷ xs) (k + 1) x)
+    = get_or-map f (x ∷ xs) (k + 1) x d (omega (arith, size, less)) in
+    ap (λ y. lt y (get_or (map f (x ∷ xs)) k d)) two ∙ ap (lt (f (get_or (x ∷ xs) (k + 1) x))) one
+    ∙ sorted k x low (omega (arith, size, less))
 
 module _ (callers : ℕ) (cs : List Context) (t : Track) (sound : IsSound callers cs t) (distinct : AreDistinct cs)
     (found : Listed) (cut : IsCutOf (account_of t) found) (whole_lines : All (λ r. IsWhole r.cost) found.lines)
@@ -105,21 +105,6 @@ module _ (callers : ℕ) (cs : List Context) (t : Track) (sound : IsSound caller
   whole_ones : (r : ArcRow) → IsIn found.arcs r → length r.cost ≡ event_kinds
   whole_ones r there = all_in (λ (p : ArcRow). length p.cost ≡ event_kinds) found.arcs r whole_arcs there
 
-  -- the numbers of rows that are found
-  pub found_number : (place : Place) → lines.has_line place found.lines ≡ true → IsNumber (length cs) place.func
-  found_number place there =
-      let r = has_some lines.place_of order.same_place place found.lines there in
-      subst (λ (p : Place). IsNumber (length cs) p.func) (sym (plain.place_alike place r.0.place r.2))
-      (found_rows.found_in cs distinct t.lines found.lines (map (named_line cs) found.lines) sound.lines cut.lines
-      lines_rise some_lines wholes (IsPermutation-refl (map (named_line cs) found.lines)) r.0 r.1)
-
-  pub found_ends : (arc : ArcKey) → arcs.has_arc arc found.arcs ≡ true → IsArcOf (length cs) arc
-  found_ends arc there =
-      let r = has_some arcs.arc_of order.same_arc arc found.arcs there in
-      same_ends (length cs) arc r.0.arc r.2
-      (found_rows.arc_found_in cs distinct all_arcs found.arcs (map (named_arc cs) found.arcs) arcs_range arc_costs
-      arc_calls arcs_rise some_arcs whole_ones (IsPermutation-refl (map (named_arc cs) found.arcs)) r.0 r.1)
-
   module _ (named : CtxListed) (are : AreNamedRows cs found named) where
     named_lines : named.lines ≡ (rows_of_track cs t).lines
     named_lines =
@@ -152,11 +137,3 @@ pub state_rows : (w : CtxState) (thread : ThreadNo) (t : Track) (named : CtxList
     → named ≡ rows_of_track w.contexts t → named ≡ rows_in w thread
 unfolding rows_in
 state_rows w thread t named is same = same ∙ ap (λ (u : Track). rows_of_track w.contexts u) (sym is)
-
--- the rows that are answered
-pub rows_answer : {E : Type 0} (r : Result OfThread E) (thread : ThreadNo) (cs : List Context) (found : Listed)
-    (all : CtxListed) → ((named : CtxListed) → AreNamedRows cs found named → named ≡ all)
-    → IfOk r (λ n. n.thread ≡ thread) → IfOk r (λ n. AreNamedRows cs found n.rows)
-    → IfOk r (λ n. n ≡ record { thread = thread; rows = all })
-rows_answer (Ok n) thread cs found all same own are = λ i. record { thread = own i; rows = same n.rows are i }
-rows_answer (Err e) thread cs found all same own are = tt

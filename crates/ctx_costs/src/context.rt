@@ -1,13 +1,11 @@
 //! A calling context of bounded length.
 
-ghost use Rattle.std.specs.Prelude.{◌≡◌, ◌∷◌, ◌<◌, ◌≤◌, [], IfOk, take};
+ghost use Rattle.std.specs.Prelude.{◌≡◌, ◌∷◌, ◌<◌, ◌≤◌, [], take};
 ghost use Rattle.ctx_costs.specs.inner.Keys.{IsCut, digit_at, equal_keys, few_digits, listed};
 
 use arc_costs::Digits;
-use byte_text::OutOfMemory;
-use ctx_rows::FuncList;
+use ctx_rows::ContextRef;
 use event_costs::FuncId;
-use std::alloc::Global;
 
 /// The most functions of a context: one and its callers, of which there are at most 16.
 pub(crate) const MOST: usize = 17;
@@ -65,15 +63,11 @@ impl Context {
         Context { functions, len }
     }
 
-    /// Its functions.
-    pub(crate) fn list(&self, alloc: Global) -> Result<FuncList, OutOfMemory>
+    /// It, kept here.
+    pub(crate) fn as_ref(&self) -> ContextRef<'_>
         requires { IsCut self.now }
-        ensures { IfOk result (λ list. list ≡ listed self.now) }
+        ensures { result ≡ listed self.now }
     {
-        let mut items = Vec::with_capacity(alloc, self.len)?;
-        'places: for place in 0..self.len {
-            items.push(FuncId(self.functions[place]))?;
-        }
-        Ok(FuncList { items })
+        ContextRef::new(&self.functions[..self.len])
     }
 }

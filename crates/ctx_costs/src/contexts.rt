@@ -8,7 +8,7 @@ ghost use Rattle.ctx_costs.specs.inner.Keys.{IsCut, listed};
 use crate::context::Context;
 use arc_costs::KeyTree;
 use byte_text::OutOfMemory;
-use ctx_rows::FuncList;
+use ctx_rows::ContextRef;
 use event_costs::ContextNo;
 use std::alloc::Global;
 use std::marker::Model;
@@ -103,11 +103,15 @@ impl Contexts {
         self.known.rows()[number.0 as usize].0
     }
 
-    /// Its functions.
-    pub(crate) fn list(&self, number: ContextNo) -> Result<FuncList, OutOfMemory>
-        requires { number.0 < length self.now.contexts }
-        ensures { IfOk result (λ list. list ≡ context_at self.now.contexts number) }
+    /// The contexts by their numbers.
+    pub(crate) fn refs(&self) -> Result<Vec<ContextRef<'_>>, OutOfMemory>
+        ensures { IfOk result (λ refs. refs.items ≡ self.now.contexts) }
     {
-        self.context(number).list(self.alloc)
+        let rows = self.known.rows();
+        let mut refs = Vec::with_capacity(self.alloc, rows.len())?;
+        'contexts: for row in rows {
+            refs.push(row.0.as_ref())?;
+        }
+        Ok(refs)
     }
 }

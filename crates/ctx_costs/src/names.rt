@@ -1,28 +1,24 @@
 //! Contexts in place of their numbers.
 
-ghost use Rattle.std.specs.Prelude.{◌≡◌, IfOk, length, map, true};
-ghost use Rattle.event_costs.specs.Keys.{ArcKey as ArcKeyValue, Place as PlaceValue};
-ghost use Rattle.arc_costs.specs.Arcs.{has_arc};
-ghost use Rattle.arc_costs.specs.Lines.{has_line};
-ghost use Rattle.ctx_rows.specs.Telling.{named_arc, named_line};
-ghost use Rattle.ctx_costs.specs.inner.Naming.{AreNamedRows};
-ghost use Rattle.ctx_rows.specs.Tracks.{IsArcOf, IsNumber};
+ghost use Rattle.std.specs.Prelude.{◌≡◌, IfOk, map};
+ghost use Rattle.ctx_rows.specs.Telling.{named_arc, named_line, named_rows};
 
-use crate::contexts::Contexts;
-use crate::sorting::{by_arc, by_line};
 use arc_costs::{ArcRow, LineRow, TableRows};
 use byte_text::OutOfMemory;
-use ctx_rows::{CtxArc, CtxLine, CtxRows};
+use ctx_rows::{ContextRef, CtxArc, CtxLine, CtxRows, context_at};
 use event_costs::{ContextNo, ThreadNo};
 use std::alloc::Global;
 
 /// A line row with a context in place of its number.
-fn named_line(row: &LineRow<ContextNo>, contexts: &Contexts) -> Result<CtxLine, OutOfMemory>
-    requires { IsNumber (length contexts.now.contexts) row.now.place.func }
-    ensures { IfOk result (λ line. line ≡ named_line contexts.now.contexts row.now) }
+fn named_line(
+    alloc: Global,
+    row: &LineRow<ContextNo>,
+    contexts: &[ContextRef<'_>],
+) -> Result<CtxLine, OutOfMemory>
+    ensures { IfOk result (λ line. line ≡ named_line contexts.now row.now) }
 {
     Ok(CtxLine {
-        ctx: contexts.list(row.place.func)?,
+        ctx: context_at(contexts, row.place.func).to_list(alloc)?,
         file: row.place.file,
         line: row.place.line,
         cost: row.cost,
@@ -30,13 +26,16 @@ fn named_line(row: &LineRow<ContextNo>, contexts: &Contexts) -> Result<CtxLine, 
 }
 
 /// An arc row with contexts in place of their numbers.
-fn named_arc(row: &ArcRow<ContextNo>, contexts: &Contexts) -> Result<CtxArc, OutOfMemory>
-    requires { IsArcOf (length contexts.now.contexts) row.now.arc }
-    ensures { IfOk result (λ arc. arc ≡ named_arc contexts.now.contexts row.now) }
+fn named_arc(
+    alloc: Global,
+    row: &ArcRow<ContextNo>,
+    contexts: &[ContextRef<'_>],
+) -> Result<CtxArc, OutOfMemory>
+    ensures { IfOk result (λ arc. arc ≡ named_arc contexts.now row.now) }
 {
     Ok(CtxArc {
-        caller: contexts.list(row.arc.caller)?,
-        callee: contexts.list(row.arc.callee)?,
+        caller: context_at(contexts, row.arc.caller).to_list(alloc)?,
+        callee: context_at(contexts, row.arc.callee).to_list(alloc)?,
         file: row.arc.file,
         line: row.arc.line,
         calls: row.calls,
@@ -44,57 +43,23 @@ fn named_arc(row: &ArcRow<ContextNo>, contexts: &Contexts) -> Result<CtxArc, Out
     })
 }
 
-/// Line rows with contexts in place of their numbers, in their order.
-fn named_lines(
-    alloc: Global,
-    rows: &[LineRow<ContextNo>],
-    contexts: &Contexts,
-) -> Result<Vec<CtxLine>, OutOfMemory>
-    requires { (place : PlaceValue) → has_line place rows.now ≡ true
-        → IsNumber (length contexts.now.contexts) place.func }
-    ensures { IfOk result (λ lines. lines.items ≡ map (named_line contexts.now.contexts) rows.now) }
-{
-    let mut lines = Vec::with_capacity(alloc, rows.len())?;
-    'lines: for row in rows {
-        lines.push(named_line(row, contexts)?)?;
-    }
-    Ok(lines)
-}
-
-/// Arc rows with contexts in place of their numbers, in their order.
-fn named_arcs(
-    alloc: Global,
-    rows: &[ArcRow<ContextNo>],
-    contexts: &Contexts,
-) -> Result<Vec<CtxArc>, OutOfMemory>
-    requires { (arc : ArcKeyValue) → has_arc arc rows.now ≡ true → IsArcOf (length contexts.now.contexts) arc }
-    ensures { IfOk result (λ arcs. arcs.items ≡ map (named_arc contexts.now.contexts) rows.now) }
-{
-    let mut arcs = Vec::with_capacity(alloc, rows.len())?;
-    'arcs: for row in rows {
-        arcs.push(named_arc(row, contexts)?)?;
-    }
-    Ok(arcs)
-}
-
-/// Rows with contexts in place of their numbers, in the order of the contexts.
+/// Rows with contexts in place of their numbers, in their order.
 pub(crate) fn named_rows(
     alloc: Global,
     thread: ThreadNo,
     rows: &TableRows<ContextNo>,
-    contexts: &Contexts,
+    contexts: &[ContextRef<'_>],
 ) -> Result<CtxRows, OutOfMemory>
-    requires lines { (place : PlaceValue) → has_line place rows.now.lines ≡ true
-        → IsNumber (length contexts.now.contexts) place.func }
-    requires arcs { (arc : ArcKeyValue) → has_arc arc rows.now.arcs ≡ true
-        → IsArcOf (length contexts.now.contexts) arc }
-    ensures thread { IfOk result (λ named. named.thread ≡ thread) }
-    ensures rows { IfOk result (λ named. AreNamedRows contexts.now.contexts rows.now named.rows) }
+    ensures { IfOk result (λ named. named ≡ record { thread = thread; rows = named_rows contexts.now rows.now }) }
 {
-    let mut lines = named_lines(alloc, &rows.lines, contexts)?;
-    lines.sort_unstable_by(|x, y| by_line(x, y));
-    let mut arcs = named_arcs(alloc, &rows.arcs, contexts)?;
-    arcs.sort_unstable_by(|x, y| by_arc(x, y));
+    let mut lines = Vec::with_capacity(alloc, rows.lines.len())?;
+    'lines: for row in &rows.lines {
+        lines.push(named_line(alloc, row, contexts)?)?;
+    }
+    let mut arcs = Vec::with_capacity(alloc, rows.arcs.len())?;
+    'arcs: for row in &rows.arcs {
+        arcs.push(named_arc(alloc, row, contexts)?)?;
+    }
     Ok(CtxRows {
         thread,
         lines,

@@ -1,7 +1,8 @@
 //! The watch that counts by calling context.
 
 ghost use Rattle.std.specs.Prelude.{◌≡◌, ◌==◌, ◌≤◌, IfOk, IfSome, OnErr, OnOk, Some, position, true};
-ghost use Rattle.ctx_rows.specs.Telling.{CanSee, CanWrite, HasRoom, rows_in};
+ghost use Rattle.ctx_rows.specs.Telling.{CanSee, CanWrite, HasRoom, named_rows, rows_in};
+ghost use Rattle.ctx_rows.specs.Texts.{ctx_text};
 ghost use Rattle.ctx_rows.specs.States.{after_part, after_ready, after_seen, knows};
 ghost use Rattle.ctx_rows.specs.Watching.{IsFresh, by_context};
 ghost use Rattle.ctx_costs.specs.inner.Tracks.{Book, HasBegun, IsPlaceOf};
@@ -11,12 +12,13 @@ use crate::context::Context;
 use crate::contexts::Contexts;
 use crate::names::named_rows;
 use crate::noting::{is_plain, note, note_plain};
+use crate::sorting::in_order;
 use crate::track::Track;
 use arc_costs::{NearRows, TableRows};
 use byte_text::{OutOfMemory, Text};
 use cg_format::PartHead;
-use ctx_rows::{CtxRows, write_ctx};
-use event_costs::{Cost, Event, FuncId, Ones, ThreadNo, ones_of};
+use ctx_rows::{ContextRef, CtxRows, write_by_number};
+use event_costs::{ContextNo, Cost, Event, FuncId, Ones, ThreadNo, ones_of};
 use part_dump::Watch;
 use std::alloc::Global;
 use std::marker::Model;
@@ -142,11 +144,37 @@ impl CtxCosts {
         requires known { knows self.now thread ≡ true }
         ensures rows { IfOk result (λ rows. rows ≡ record { thread = thread; rows = rows_in self.now thread }) }
     {
+        let contexts = self.contexts.refs()?;
+        let rows = self.rows_by_number(thread, &contexts)?;
+        named_rows(self.alloc, thread, &rows, &contexts)
+    }
+
+    /// These rows by the numbers of contexts, in the order of the contexts.
+    fn rows_by_number(
+        &self,
+        thread: ThreadNo,
+        contexts: &[ContextRef<'_>],
+    ) -> Result<TableRows<ContextNo>, OutOfMemory>
+        requires known { knows self.now thread ≡ true }
+        requires contexts { contexts.now ≡ self.now.contexts }
+        ensures { IfOk result (λ rows. named_rows contexts.now rows ≡ rows_in self.now thread) }
+    {
         let Some(place) = place_of(&self.tracks, thread) else {
             unreachable!()
         };
         let rows = self.tracks[place].rows()?;
-        named_rows(self.alloc, thread, &rows, &self.contexts)
+        Ok(in_order(rows, contexts))
+    }
+
+    /// The text of a thread's part, made of its rows by number: no context is copied.
+    fn text(&self, head: &PartHead, syms: &SymMap) -> Result<Text, OutOfMemory>
+        requires { CanWrite self.now head.now.thread syms.now }
+        ensures { IfOk result (λ text. text ≡ ctx_text head.now (rows_in self.now head.now.thread) syms.now) }
+    {
+        maps_are_sound(syms);
+        let contexts = self.contexts.refs()?;
+        let rows = self.rows_by_number(head.thread, &contexts)?;
+        write_by_number(self.alloc, head, rows, &contexts, syms)
     }
 
     /// Has the rows of a thread count from 0, and its open frames start anew. The thread was made ready once.
@@ -281,9 +309,7 @@ impl Watch for CtxCosts {
         _rows: &TableRows,
         syms: &SymMap,
     ) -> Result<Text, OutOfMemory> {
-        maps_are_sound(syms);
-        let rows = self.rows(head.thread)?;
-        let text = write_ctx(self.alloc, head, &rows, syms)?;
+        let text = self.text(head, syms)?;
         self.cut(head.thread);
         Ok(text)
     }

@@ -1,9 +1,9 @@
 mod Others
-pub mod ListLemmas
 mod SearchLemmas
 pub mod RankLemmas
 pub mod AmongLemmas
 pub mod MapLemmas
+mod MappedLemmas
 pub mod FoldLemmas
 pub mod NumberLemmas
 pub mod OrderLemmas
@@ -23,5 +23,6 @@ pub mod HoldsLemmas
 pub mod KnownRowLemmas
 pub mod LastLemmas
 pub mod PutLemmas
+pub mod ShareLemmas
 pub mod FoldedLemmas
 pub mod CallLemmas

@@ -1,11 +1,10 @@
 -- Contexts that stand for functions, and their names.
-use Rattle.std.proofs.Common.{◌≡◌, ◌⊎◌, inl, inr, ◌≤◌, ℕ, zero, suc, ◌+◌, ◌<◌, List, [], ◌∷◌}
+use Rattle.std.proofs.Common.{◌≡◌, ◌⊎◌, inl, inr, ℕ, zero, suc, ◌+◌, ◌<◌, List, [], ◌∷◌}
 use Rattle.std.proofs.Common.{◌++◌, Option, Some, append_assoc, get_or, length, map}
 use Rattle.std.proofs.Common.{slice_get, take, refl, sym, ap, subst, ◌∙◌, arith}
 use Rattle.std.specs.Prelude.{codes}
 use Rattle.std.specs.Option.{option_map_or}
 use Rattle.std.proofs.lemmas.List.{length-map}
-use Rattle.event_costs.specs.FuncSet.{numbers}
 use Rattle.event_costs.specs.declared.numbers.FuncId.{FuncId}
 use Rattle.sym_map.specs.SymbolMap.{IsFunc, SymbolMap, entry_line_of, entry_of, home_of, identity_in}
 use Rattle.sym_map.specs.SymbolMap.{identity_of, place_of}
@@ -104,53 +103,22 @@ named_next m (x ∷ c) (suc k) some less =
 
 -- ---- the loop over a context's functions
 
-number_at : (fs : List FuncId) (k : ℕ) (d : FuncId) → k < length fs → get_or (numbers fs) k 0 ≡ (get_or fs k d).0
-number_at fs k d less = read_map (λ (f : FuncId). f.0) fs k d 0 less
-
-pub known_function : (m : SymbolMap) (fs : List FuncId) (c : Context) (k : ℕ) → numbers fs ≡ c → IsKnownContext m c
-    → k < length fs → (get_or fs k (record { 0 = 0 })).0 < length m.functions
-known_function m fs c k is known less =
-    let all = length-map fs (λ (f : FuncId). f.0) in
-    let size = ap (length {A = ℕ}) is in
-    subst (λ n. n < length m.functions)
-    (ap (λ (ns : List ℕ). get_or ns k 0) (sym is) ∙ number_at fs k (record { 0 = 0 }) less)
-    (known.1 k 0 (omega (arith, all, size, less)))
-
-pub name_grows : (m : SymbolMap) (fs : List FuncId) (k : ℕ) (old mid new name : List ℕ) → k < length fs
-    → old ≡ context_name m (take k (numbers fs)) → name ≡ (identity_of m (get_or fs k (record { 0 = 0 }))).name
+pub name_grows : (m : SymbolMap) (c : Context) (k : ℕ) (old mid new name : List ℕ) → k < length c
+    → old ≡ context_name m (take k c) → name ≡ name_of m (get_or c k 0)
     → new ≡ mid ++ name → ((0 < k) × (mid ≡ old ++ codes "'")) ⊎ ((k ≡ 0) × (mid ≡ old))
-    → new ≡ context_name m (take (k + 1) (numbers fs))
-name_grows m fs k old mid new name less old_is name_is_ new_is by_place = by by_place
+    → new ≡ context_name m (take (k + 1) c)
+name_grows m c k old mid new name less old_is name_is_ new_is by_place = by by_place
   where
-    size : k < length (numbers fs)
-    size = let all = length-map fs (λ (f : FuncId). f.0) in omega (arith, all, less)
-
-    named : name ≡ name_of m (get_or (numbers fs) k 0)
-    named = name_is_ ∙ ap (name_of m) (sym (number_at fs k (record { 0 = 0 }) less))
-
-    by : ((0 < k) × (mid ≡ old ++ codes "'")) ⊎ ((k ≡ 0) × (mid ≡ old))
-        → new ≡ context_name m (take (k + 1) (numbers fs))
+    by : ((0 < k) × (mid ≡ old ++ codes "'")) ⊎ ((k ≡ 0) × (mid ≡ old)) → new ≡ context_name m (take (k + 1) c)
     by (inl later) =
-        new_is ∙ (λ i. (later.1 ∙ ap (λ (t : List ℕ). t ++ codes "'") old_is) i ++ named i)
-        ∙ append_assoc (context_name m (take k (numbers fs))) (codes "'") (name_of m (get_or (numbers fs) k 0))
-        ∙ sym (named_next m (numbers fs) k later.0 size)
+        new_is ∙ (λ i. (later.1 ∙ ap (λ (t : List ℕ). t ++ codes "'") old_is) i ++ name_is_ i)
+        ∙ append_assoc (context_name m (take k c)) (codes "'") (name_of m (get_or c k 0))
+        ∙ sym (named_next m c k later.0 less)
     by (inr first) =
-        let none : old ≡ [] = old_is ∙ ap (λ n. context_name m (take n (numbers fs))) first.0 in
+        let none : old ≡ [] = old_is ∙ ap (λ n. context_name m (take n c)) first.0 in
         let one : 1 ≡ k + 1 = omega (arith, first.0) in
-        let at_first : name_of m (get_or (numbers fs) k 0) ≡ context_name m (take (k + 1) (numbers fs))
-        = ap (λ n. name_of m (get_or (numbers fs) n 0)) first.0
-        ∙ sym (named_first m (numbers fs) (omega (arith, size)))
-        ∙ ap (λ n. context_name m (take n (numbers fs))) one in
-        new_is ∙ (λ i. (first.1 ∙ none) i ++ named i) ∙ at_first
-
-take_all : (k : ℕ) (xs : List ℕ) → length xs ≤ k → take k xs ≡ xs
-take_all zero [] less = refl
-take_all zero (x ∷ xs) less = absurd (omega (arith, less))
-take_all (suc k) [] less = refl
-take_all (suc k) (x ∷ xs) less = ap (λ ys. x ∷ ys) (take_all k xs (omega (arith, less)))
-
-pub name_whole : (m : SymbolMap) (fs : List FuncId) (c : Context) (text : List ℕ) (k : ℕ)
-    → text ≡ context_name m (take k (numbers fs)) → length fs ≤ k → numbers fs ≡ c → text ≡ context_name m c
-name_whole m fs c text k is past same =
-    let all = length-map fs (λ (f : FuncId). f.0) in
-    is ∙ ap (context_name m) (take_all k (numbers fs) (omega (arith, all, past)) ∙ same)
+        let at_first : name_of m (get_or c k 0) ≡ context_name m (take (k + 1) c)
+        = ap (λ n. name_of m (get_or c n 0)) first.0
+        ∙ sym (named_first m c (omega (arith, less, first.0)))
+        ∙ ap (λ n. context_name m (take n c)) one in
+        new_is ∙ (λ i. (first.1 ∙ none) i ++ name_is_ i) ∙ at_first

@@ -1,6 +1,6 @@
 -- Contexts numbered by their order.
 use Rattle.std.proofs.Common.{◌≡◌, ◌↔◌, ℕ, zero, suc, ◌<◌, Bool, true, false, List, [], ◌∷◌, Contains, get_or, length}
-use Rattle.std.proofs.Common.{IfOk, Result, Ok, Err, refl, ap, sym, subst, ◌∙◌, arith, if◌then◌else◌}
+use Rattle.std.proofs.Common.{refl, ap, sym, subst, ◌∙◌, arith, if◌then◌else◌}
 use Rattle.std.specs.Cmp.{tied_itself}
 use Rattle.std.specs.Cmp.Lexicographic.{nat_list_cmp_total}
 use Rattle.std.specs.List.Sorted.{IsStrictlySortedBy}
@@ -61,14 +61,6 @@ one_rising cs all sorted same =
     (in_from_contains all c ((same c).0 (contains_from_in cs c there))))
     (λ c there. in_from_contains cs c
     ((same c).1 (contains_from_in all c (rise.risen_in context_order nat_list_cmp_total context_only all c there))))
-
-pub distinct_are : {V E : Type 0} (items : V → List Context) (r : Result V E) (all was : List Context) → was ≡ all
-    → IfOk r (λ v. IsStrictlySortedBy context_order (items v))
-    → IfOk r (λ v. (c : Context) → Contains (items v) c ↔ Contains was c)
-    → IfOk r (λ v. items v ≡ risen context_order all)
-distinct_are items (Ok v) all was is sorted same =
-    subst (λ (cs : List Context). items v ≡ risen context_order cs) is (one_rising (items v) was sorted same)
-distinct_are items (Err e) all was is sorted same = tt
 
 -- the rising contexts of a list are sorted, and each of the list is among them
 pub risen_sorted : (all : List Context) → IsStrictlySortedBy context_order (risen context_order all)

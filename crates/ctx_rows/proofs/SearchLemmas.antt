@@ -1,5 +1,5 @@
 -- A search among keys in strictly rising order.
-use Rattle.std.proofs.Common.{◌≡◌, ℕ, ◌+◌, ◌<◌, ◌≤◌, false, List, length, get_or, ap, refl, ◌∙◌, Contains, ⊎_elim, ◌⊎◌}
+use Rattle.std.proofs.Common.{◌≡◌, ℕ, ◌+◌, ◌<◌, ◌≤◌, false, List, get_or, ap, refl, ◌∙◌, Contains, ⊎_elim, ◌⊎◌}
 use Rattle.std.proofs.Common.{Ordering, arith}
 use Rattle.std.specs.Cmp.{IsTotalOrder}
 use Rattle.std.specs.Ordering.{is_lt, ordering_index}

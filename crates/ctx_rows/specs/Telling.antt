@@ -8,6 +8,7 @@ use Rattle.event_costs.specs.declared.numbers.ThreadNo.{ThreadNo}
 use Rattle.sym_map.specs.SymbolMap.{IsSound, SymbolMap}
 use Rattle.shadow_stack.specs.Frames.{closings}
 use Rattle.arc_costs.specs.Arcs.{arc_sum, call_sum}
+use Rattle.arc_costs.specs.Contents.{Listed}
 use Rattle.arc_costs.specs.Lines.{line_sum}
 use Rattle.arc_costs.specs.Rows.{ArcRow, LineRow}
 use Rattle.recorder.specs.Notes.{open_sum, rows_of_tellings}
@@ -35,6 +36,12 @@ named_arc contexts row = record {
   line = row.arc.line;
   calls = row.calls;
   cost = row.cost;
+}
+
+abbrev pub named_rows : List Context → Listed → CtxListed
+named_rows contexts rows = record {
+  lines = map (named_line contexts) rows.lines;
+  arcs = map (named_arc contexts) rows.arcs;
 }
 
 -- The rows of a thread since its last cut: what was counted, and what its open frames have cost since then, summed up

@@ -1,3 +1,4 @@
 -- Words of private contracts. No public clause rests on them.
 pub mod Named
+pub mod Ranks
 pub mod Ties

@@ -2,13 +2,16 @@
 //! keeps that counts so, as plain data, and what holds of it after every run.
 #![tactic(auto)]
 
+mod context_ref;
 mod folding;
 mod func_list;
 mod laws;
 mod numbering;
+mod ranking;
 mod rows;
 mod writing;
 
+pub use context_ref::{ContextRef, context_at};
 pub use folding::{fold, plain_rows, summed_rows};
 pub use func_list::FuncList;
 pub use laws::{
@@ -17,4 +20,4 @@ pub use laws::{
     rows_fold_back_to_the_plain_ones,
 };
 pub use rows::{CtxArc, CtxLine, CtxRows};
-pub use writing::write_ctx;
+pub use writing::{write_by_number, write_ctx};

@@ -1,54 +1,60 @@
 //! The contexts of rows, numbered by their order.
 
-ghost use Rattle.std.specs.Prelude.{◌≡◌, ◌<◌, ◌^◌, ◌↔◌, All, Contains, IfOk, length, map};
+ghost use Rattle.std.specs.Prelude.{◌≡◌, All, Contains, IfOk, map};
 ghost use Rattle.std.specs.List.Sorted.{IsStrictlySortedBy};
-ghost use Rattle.ctx_rows.specs.Contexts.{Context as ContextValue, context_order};
-ghost use Rattle.ctx_rows.specs.Contexts.{number};
+ghost use Rattle.arc_costs.specs.Keys.{risen};
+ghost use Rattle.ctx_rows.specs.Contexts.{context_order, number};
 ghost use Rattle.ctx_rows.specs.Texts.{all_contexts, contexts_in, numbered, numbered_arc, numbered_line};
 
+use crate::context_ref::ContextRef;
 use crate::func_list::FuncList;
 use crate::rows::{CtxArc, CtxLine, CtxRows};
 use arc_costs::{ArcRow, LineRow, TableRows};
 use byte_text::OutOfMemory;
 use event_costs::{ArcKey, ContextNo, Place};
+use name_numbers::distinct;
 use std::alloc::Global;
 
-/// The contexts of rows, as often as they come.
-fn all_contexts(alloc: Global, rows: &CtxRows) -> Result<Vec<FuncList>, OutOfMemory>
-    ensures { IfOk result (λ all. all.items ≡ all_contexts rows.now.rows) }
+/// The contexts of rows as lists of numbers, as often as they come.
+pub(crate) fn all_lists(alloc: Global, rows: &CtxRows) -> Result<Vec<Vec<u32>>, OutOfMemory>
+    ensures { IfOk result (λ all. map (λ list. list.items) all.items ≡ all_contexts rows.now.rows) }
 {
     let mut all = Vec::new(alloc);
     'lines: for row in &rows.lines {
-        all.push(row.ctx.try_clone(alloc)?)?;
+        all.push(row.ctx.numbers(alloc)?)?;
     }
     'arcs: for row in &rows.arcs {
-        all.push(row.caller.try_clone(alloc)?)?;
-        all.push(row.callee.try_clone(alloc)?)?;
+        all.push(row.caller.numbers(alloc)?)?;
+        all.push(row.callee.numbers(alloc)?)?;
     }
     Ok(all)
 }
 
-/// Each of these contexts once, in rising order.
-fn distinct(contexts: Vec<FuncList>) -> Result<Vec<FuncList>, OutOfMemory>
-    ensures rise { IfOk result (λ sorted. IsStrictlySortedBy context_order sorted.items) }
-    ensures same { IfOk result (λ sorted. (c : ContextValue)
-        → Contains sorted.items c ↔ Contains contexts.items c) }
+/// The contexts of these lists.
+pub(crate) fn contexts_of(
+    alloc: Global,
+    lists: &[Vec<u32>],
+) -> Result<Vec<ContextRef<'_>>, OutOfMemory>
+    ensures { IfOk result (λ contexts. contexts.items ≡ map (λ list. list.items) lists.now) }
 {
-    let mut sorted = contexts;
-    sorted.sort_unstable();
-    sorted.dedup();
-    Ok(sorted)
+    let mut contexts = Vec::with_capacity(alloc, lists.len())?;
+    'lists: for list in lists {
+        contexts.push(ContextRef::new(list))?;
+    }
+    Ok(contexts)
 }
 
-/// The contexts of rows, each once, in rising order.
-pub(crate) fn contexts_in(alloc: Global, rows: &CtxRows) -> Result<Vec<FuncList>, OutOfMemory>
-    ensures contexts { IfOk result (λ contexts. contexts.items ≡ contexts_in rows.now.rows) }
+/// Each of these contexts once, in rising order.
+pub(crate) fn in_order<'a>(all: Vec<ContextRef<'a>>) -> Result<Vec<ContextRef<'a>>, OutOfMemory>
+    ensures { IfOk result (λ contexts. contexts.items ≡ risen context_order all.entry.items) }
 {
-    distinct(all_contexts(alloc, rows)?)
+    let mut contexts = distinct(all)?;
+    contexts.shrink_to_fit();
+    Ok(contexts)
 }
 
 /// The number of a context that is among these.
-fn number(contexts: &[FuncList], context: &FuncList) -> ContextNo
+pub(crate) fn number(contexts: &[ContextRef<'_>], context: &ContextRef<'_>) -> ContextNo
     requires rise { IsStrictlySortedBy context_order contexts.now }
     requires there { Contains contexts.now context.now }
     ensures { result ≡ number contexts.now context.now }
@@ -59,10 +65,24 @@ fn number(contexts: &[FuncList], context: &FuncList) -> ContextNo
     }
 }
 
+/// The number of a list that is among these contexts.
+fn number_of(
+    alloc: Global,
+    contexts: &[ContextRef<'_>],
+    list: &FuncList,
+) -> Result<ContextNo, OutOfMemory>
+    requires rise { IsStrictlySortedBy context_order contexts.now }
+    requires there { Contains contexts.now list.now }
+    ensures { IfOk result (λ answer. answer ≡ number contexts.now list.now) }
+{
+    let numbers = list.numbers(alloc)?;
+    Ok(number(contexts, &ContextRef::new(&numbers)))
+}
+
 /// Line rows with the numbers of contexts in place of functions.
 fn numbered_lines(
     alloc: Global,
-    contexts: &[FuncList],
+    contexts: &[ContextRef<'_>],
     rows: &[CtxLine],
 ) -> Result<Vec<LineRow<ContextNo>>, OutOfMemory>
     requires rise { IsStrictlySortedBy context_order contexts.now }
@@ -73,7 +93,7 @@ fn numbered_lines(
     'lines: for row in rows {
         lines.push(LineRow {
             place: Place {
-                func: number(contexts, &row.ctx),
+                func: number_of(alloc, contexts, &row.ctx)?,
                 file: row.file,
                 line: row.line,
             },
@@ -86,7 +106,7 @@ fn numbered_lines(
 /// Arc rows with the numbers of contexts in place of functions.
 fn numbered_arcs(
     alloc: Global,
-    contexts: &[FuncList],
+    contexts: &[ContextRef<'_>],
     rows: &[CtxArc],
 ) -> Result<Vec<ArcRow<ContextNo>>, OutOfMemory>
     requires rise { IsStrictlySortedBy context_order contexts.now }
@@ -96,8 +116,8 @@ fn numbered_arcs(
 {
     let mut arcs = Vec::with_capacity(alloc, rows.len())?;
     'arcs: for row in rows {
-        let caller = number(contexts, &row.caller);
-        let callee = number(contexts, &row.callee);
+        let caller = number_of(alloc, contexts, &row.caller)?;
+        let callee = number_of(alloc, contexts, &row.callee)?;
         arcs.push(ArcRow {
             arc: ArcKey {
                 caller,
@@ -115,7 +135,7 @@ fn numbered_arcs(
 /// The rows with the numbers of contexts in place of functions.
 pub(crate) fn numbered(
     alloc: Global,
-    contexts: &[FuncList],
+    contexts: &[ContextRef<'_>],
     rows: &CtxRows,
 ) -> Result<TableRows<ContextNo>, OutOfMemory>
     requires contexts { contexts.now ≡ contexts_in rows.now.rows }

@@ -1,30 +1,35 @@
 //! The text of a part by context.
 
-ghost use Rattle.std.specs.Prelude.{◌≡◌, ◌<◌, All, IfOk, length, map};
+ghost use Rattle.std.specs.Prelude.{◌≡◌, All, IfOk, map};
 ghost use Rattle.ctx_rows.specs.Known.{AreKnown, IsKnownContext};
+ghost use Rattle.ctx_rows.specs.Rows.{CtxListed};
+ghost use Rattle.ctx_rows.specs.Telling.{named_rows};
 ghost use Rattle.ctx_rows.specs.Texts.{context_name, ctx_text};
+ghost use Rattle.ctx_rows.specs.inner.Ranks.{AreRanked};
 
-use crate::func_list::FuncList;
-use crate::numbering::{contexts_in, numbered};
+use crate::context_ref::ContextRef;
+use crate::numbering::{all_lists, contexts_of, in_order, numbered};
+use crate::ranking::rank;
 use crate::rows::CtxRows;
+use arc_costs::TableRows;
 use byte_text::{OutOfMemory, Text};
 use cg_format::{Naming, PartHead, write_named};
-use event_costs::{ContextNo, FileId};
+use event_costs::{ContextNo, FileId, FuncId};
 use std::alloc::Global;
 use std::marker::Model;
 use sym_map::SymMap;
 
 /// The names of a context's functions, joined by an apostrophe.
-fn context_name(alloc: Global, syms: &SymMap, context: &FuncList) -> Result<Text, OutOfMemory>
+fn context_name(alloc: Global, syms: &SymMap, context: &ContextRef<'_>) -> Result<Text, OutOfMemory>
     requires { IsKnownContext syms.now context.now }
     ensures { IfOk result (λ text. text ≡ context_name syms.now context.now) }
 {
     let mut text = Text::new(alloc);
-    'functions: for (place, func) in context.items.iter().enumerate() {
+    'functions: for (place, func) in context.as_slice().iter().enumerate() {
         if place > 0 {
             text.push(b"'")?;
         }
-        text.push(syms.name(*func))?;
+        text.push(syms.name(FuncId(*func)))?;
     }
     Ok(text)
 }
@@ -33,7 +38,7 @@ fn context_name(alloc: Global, syms: &SymMap, context: &FuncList) -> Result<Text
 fn context_names(
     alloc: Global,
     syms: &SymMap,
-    contexts: &[FuncList],
+    contexts: &[ContextRef<'_>],
 ) -> Result<Vec<Text>, OutOfMemory>
     requires { All (IsKnownContext syms.now) contexts.now }
     ensures { IfOk result (λ names. names.items ≡ map (context_name syms.now) contexts.now) }
@@ -49,7 +54,7 @@ fn context_names(
 #[derive(Drop)]
 struct ContextMap<'a> {
     syms: &'a SymMap,
-    contexts: &'a [FuncList],
+    contexts: &'a [ContextRef<'a>],
     names: &'a [Text],
 }
 
@@ -86,6 +91,27 @@ impl<'a> Naming for ContextMap<'a> {
     }
 }
 
+/// Writes rows by the numbers of contexts, which have their order.
+fn write_ranked(
+    alloc: Global,
+    head: &PartHead,
+    rows: &TableRows<ContextNo>,
+    contexts: &[ContextRef<'_>],
+    syms: &SymMap,
+) -> Result<Text, OutOfMemory>
+    requires { (all : CtxListed) × AreRanked syms.now contexts.now rows.now all }
+    ensures { (all : CtxListed) → AreRanked syms.now contexts.now rows.now all
+        → IfOk result (λ text. text ≡ ctx_text head.now all syms.now) }
+{
+    let names = context_names(alloc, syms, contexts)?;
+    let map = ContextMap {
+        syms,
+        contexts,
+        names: &names,
+    };
+    write_named(alloc, head, rows, &map)
+}
+
 /// The text of a part in Callgrind's format, with contexts for functions: the name of a context is that of its
 /// functions, joined by apostrophes, and its file and entry are those of the first one. Each context has an id of its
 /// own, so two may have one name. No context is empty, and each function and file of the rows is one of the map.
@@ -98,13 +124,24 @@ pub fn write_ctx(
     requires { AreKnown syms.now rows.now.rows }
     ensures { IfOk result (λ text. text ≡ ctx_text head.now rows.now.rows syms.now) }
 {
-    let contexts = contexts_in(alloc, rows)?;
-    let names = context_names(alloc, syms, &contexts)?;
+    let lists = all_lists(alloc, rows)?;
+    let contexts = in_order(contexts_of(alloc, &lists)?)?;
     let numbered = numbered(alloc, &contexts, rows)?;
-    let map = ContextMap {
-        syms,
-        contexts: &contexts,
-        names: &names,
-    };
-    write_named(alloc, head, &numbered, &map)
+    write_ranked(alloc, head, &numbered, &contexts, syms)
+}
+
+/// What `write_ctx` writes, of rows by the numbers of these contexts. They get other numbers in their places.
+pub fn write_by_number(
+    alloc: Global,
+    head: &PartHead,
+    rows: TableRows<ContextNo>,
+    contexts: &[ContextRef<'_>],
+    syms: &SymMap,
+) -> Result<Text, OutOfMemory>
+    requires { AreKnown syms.now (named_rows contexts.now rows) }
+    ensures { IfOk result (λ text. text ≡ ctx_text head.now (named_rows contexts.now rows) syms.now) }
+{
+    let mut rows = rows;
+    let ranked = rank(alloc, &mut rows, contexts)?;
+    write_ranked(alloc, head, &rows, &ranked, syms)
 }
