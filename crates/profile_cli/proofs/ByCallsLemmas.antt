@@ -43,7 +43,7 @@ use Rattle.reads_back.specs.Joined.{events_in}
 use Rattle.reads_back.proofs.JoinedLemmas.{longer_same}
 use Rattle.run_laws.specs.OwnParts.{texts_of_files, with_their_lengths}
 use Rattle.report_laws.specs.Exact.{parts_wanted}
-use Rattle.report_laws.proofs.ExactLemmas.{same_parts}
+use Rattle.profile_cli.proofs.Others.{same_parts}
 use Rattle.report_laws.specs.Rows.{AreEntriesSmall}
 use Rattle.command_status.specs.Ends.{end_status}
 use Rattle.command_status.specs.Lines.{message_of}

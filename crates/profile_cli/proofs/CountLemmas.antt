@@ -22,7 +22,7 @@ use Rattle.profile_run.specs.Program.{CanRun, Program}
 use Rattle.profile_run.specs.Trace.{Makes, RunStep}
 use Rattle.run_laws.specs.Profiles.{IsProfileOfRun}
 use Rattle.run_laws.specs.Runs.{events_with_costs, events_with_stacks}
-use Rattle.run_laws.proofs.CostLemmas.{of_trace as profile_of_run}
+use Rattle.profile_cli.proofs.Others.{profile_of_run}
 use Rattle.profile_cli.proofs.Others.{have_stacks}
 use Rattle.profile_cli.specs.Counts.{CountEvents, is_of_pair, numbers_of, passes}
 

@@ -216,6 +216,10 @@ budget-replies = of_runs (λ job watching guest trace. length trace ≤ job.budg
     subst (λ (g : Program). length run.trace ≤ g.options.budget) run.guest_is
     (budget.within_budget run.guest run.trace run.stop run.is))
 
+pub can_run-replies : (old new : Outside) (asked : Request) (status : Status) → IsWithin asked
+    → Replies old asked status new → OfRuns (λ job watching guest trace. CanRun guest) old asked status new
+can_run-replies = of_runs (λ job watching guest trace. CanRun guest) (λ job watching program input run can. can)
+
 pub IsOwnRows-replies : (old new : Outside) (asked : Request) (status : Status) → IsWithin asked
     → Replies old asked status new → IsOwnRows old asked status new
 IsOwnRows-replies = of_runs _ (λ job watching program input run can earlier segment later thread cut.

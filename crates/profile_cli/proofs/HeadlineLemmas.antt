@@ -9,6 +9,7 @@ use Rattle.command_status.specs.Numbers.{is_short}
 use Rattle.command_status.specs.declared.status.Status.{Status}
 use Rattle.command_words.specs.Request.{Request, Job, Positions, Report, View}
 use Rattle.command_words.specs.Within.{IsJob, IsWithin}
+use Rattle.profile_run.specs.Program.{CanRun}
 use Rattle.profile_cli.specs.Headline.{IsHeadline}
 use Rattle.profile_cli.specs.OwnReport.{reporting_own}
 use Rattle.profile_cli.specs.Reply.{Replies}
@@ -53,3 +54,13 @@ IsHeadline-replies old new asked status within replies = λ files job positions 
     let reply = subst (λ a. Replies old a status new) is replies in
     let all = reported_or_short old new job positions view status (subst IsWithin is within).0 reply files told long in
     exact_of old new job positions view reply.found status reply.err all.worked all.status_is all.written
+
+-- and what was run for it can be run
+pub can_report-replies : (old new : Outside) (asked : Request) (status : Status) (within : IsWithin asked)
+    (replies : Replies old asked status new) (files : Files) (job : Job) (positions : Positions) (view : View)
+    (is : asked ≡ Report job positions view) (told : old.files ≡ Some files) (long : is_short status ≡ false)
+    → CanRun (IsHeadline-replies old new asked status within replies files job positions view is told long).run.run.guest
+unfolding IsHeadline-replies
+can_report-replies old new asked status within replies files job positions view is told long =
+    let reply = subst (λ a. Replies old a status new) is replies in
+    (reported_or_short old new job positions view status (subst IsWithin is within).0 reply files told long).worked.can

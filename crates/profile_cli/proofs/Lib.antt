@@ -33,3 +33,5 @@ mod OwnTextLemmas
 mod ByCallsLemmas
 mod ReplyLemmas
 mod ExitLemmas
+mod OneMapLemmas
+mod OneRunLemmas

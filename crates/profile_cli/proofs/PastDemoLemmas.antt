@@ -37,7 +37,7 @@ use Rattle.run_laws.specs.Profiles.{IsProfileOfRun}
 use Rattle.run_laws.specs.Runs.{events_with_stacks}
 use Rattle.profile_cli.proofs.Others.{none_over, total_is, read_is_run, refused_is_own}
 use Rattle.report_laws.specs.Exact.{parts_wanted}
-use Rattle.report_laws.proofs.ExactLemmas.{same_parts}
+use Rattle.profile_cli.proofs.Others.{same_parts}
 use Rattle.command_status.specs.Ends.{end_status}
 use Rattle.command_status.specs.declared.status.Status.{Status}
 use Rattle.command_status.specs.declared.status.Status.TheVariants.{Done, LoadFault, OutFault, OutOfMemory}

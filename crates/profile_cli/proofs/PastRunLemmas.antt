@@ -32,7 +32,7 @@ use Rattle.reads_back.specs.Joined.{no_rows_of}
 use Rattle.run_laws.specs.OwnParts.{IsOwnFault, with_their_lengths}
 use Rattle.profile_cli.proofs.Others.{none_over, more_taken}
 use Rattle.report_laws.specs.Exact.{parts_wanted}
-use Rattle.report_laws.proofs.ExactLemmas.{same_parts}
+use Rattle.profile_cli.proofs.Others.{same_parts}
 use Rattle.command_status.specs.Ends.{end_status}
 use Rattle.command_status.specs.Lines.{message_of}
 use Rattle.command_status.specs.declared.status.Status.{Status}
@@ -349,7 +349,7 @@ same_run old new job put found status err has is = record {
 }
 
 -- the report is exact once the line is written
-pub exact_of : (old new : Outside) (job : Job) (positions : Positions) (view : View) (found status : Status)
+abbrev pub exact_of : (old new : Outside) (job : Job) (positions : Positions) (view : View) (found status : Status)
     (err : Stream) → IsWorked old job positions view found (record new { err = err }) → status ≡ found
     → new.err.taken ≡ taken_more err.taken (message_of found)
     → IsExactReport old job positions view status new

@@ -9,8 +9,8 @@ use Rattle.profile_cli.specs.Reply.{Replies}
 use Rattle.profile_cli.proofs.ByCallsLemmas.{IsHeadlineByCalls-told}
 use Rattle.profile_cli.proofs.CompleteLemmas.{IsComplete-replies}
 use Rattle.profile_cli.proofs.EveryRunLemmas.{IsAddresses-replies, IsContexts-replies, IsOwnRows-replies}
-use Rattle.profile_cli.proofs.EveryRunLemmas.{IsWaits-replies, budget-replies}
-use Rattle.profile_cli.proofs.HeadlineLemmas.{IsHeadline-replies}
+use Rattle.profile_cli.proofs.EveryRunLemmas.{IsWaits-replies, budget-replies, can_run-replies}
+use Rattle.profile_cli.proofs.HeadlineLemmas.{IsHeadline-replies, can_report-replies}
 use Rattle.profile_cli.proofs.ReadableLemmas.{IsReadable-replies}
 
 pub IsReply-replies : (old new : Outside) (asked : Request) (status : Status) → IsWithin asked
@@ -27,4 +27,6 @@ IsReply-replies old new asked status within replies told = record {
   contexts = IsContexts-replies old new asked status within replies;
   addresses = IsAddresses-replies old new asked status within replies;
   budget = budget-replies old new asked status within replies;
+  can_run = can_run-replies old new asked status within replies;
+  can_report = can_report-replies old new asked status within replies;
 }

@@ -1,8 +1,11 @@
 -- All that is said of a reply.
-use Rattle.std.specs.Prelude.{◌≤◌, length}
+use Rattle.std.specs.Prelude.{◌≡◌, ◌≤◌, false, length, Some}
+use Rattle.outside.specs.Files.{Files}
 use Rattle.outside.specs.Outside.{Outside}
+use Rattle.command_status.specs.Numbers.{is_short}
 use Rattle.command_status.specs.declared.status.Status.{Status}
-use Rattle.command_words.specs.Request.{Request}
+use Rattle.command_words.specs.Request.{Job, Positions, Report, Request, View}
+use Rattle.profile_run.specs.Program.{CanRun}
 use Rattle.profile_cli.specs.Addresses.{IsAddresses}
 use Rattle.profile_cli.specs.ByCalls.{IsHeadlineByCalls}
 use Rattle.profile_cli.specs.Calls.{MakesCalls}
@@ -34,3 +37,8 @@ pub record IsReply (old : Outside) (asked : Request) (status : Status) (new : Ou
   pub addresses : IsAddresses old asked status new
   -- a run has no more steps than were asked for
   pub budget : OfRuns (λ job watching guest trace. length trace ≤ job.budget) old asked status new
+  -- the program of a run, and that of an exact report, can be run: its file is accepted, and its map sound
+  pub can_run : OfRuns (λ job watching guest trace. CanRun guest) old asked status new
+  pub can_report : (files : Files) (job : Job) (positions : Positions) (view : View)
+      (is : asked ≡ Report job positions view) (known : old.files ≡ Some files) (long : is_short status ≡ false)
+      → CanRun (headline files job positions view is known long).run.run.guest

@@ -2,6 +2,7 @@
 #![tactic(auto)]
 
 mod demo;
+mod laws;
 mod parts;
 mod process;
 mod program;
@@ -11,5 +12,6 @@ mod waiting;
 mod work;
 
 pub use command_status::Status;
+pub use laws::{a_job_has_one_run, equal_commands_end_alike, equal_reports_are_one};
 pub use process::command;
 pub use work::profile;

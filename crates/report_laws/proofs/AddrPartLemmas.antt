@@ -68,7 +68,7 @@ each_filtered P p (x ∷ xs) all = go (p x) (each_filtered P p xs all.1)
     go true rest = (all.0, rest)
     go false rest = rest
 
-each_group : {X : Type 0} (P : X → Type 0) (p : ℕ → X → Bool) (xs : List X) (ks : List ℕ) → AllByRecursion P xs
+pub each_group : {X : Type 0} (P : X → Type 0) (p : ℕ → X → Bool) (xs : List X) (ks : List ℕ) → AllByRecursion P xs
     → AllByRecursion P (flat_map (λ k. filter (p k) xs) ks)
 each_group P p xs [] all = tt
 each_group P p xs (k ∷ ks) all =

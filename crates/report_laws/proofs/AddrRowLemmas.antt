@@ -56,10 +56,10 @@ arc_address row = arc_part (λ (r : AddrArc). r.addr) row
 
 -- ---- the entry of a function
 
-abbrev entry_address : SymbolMap → FuncId → ℕ
+abbrev pub entry_address : SymbolMap → FuncId → ℕ
 entry_address m func = option_map_or (λ entry. entry) (entry_of m func) 0
 
-entry_is : (m : SymbolMap) (func : FuncId)
+pub entry_is : (m : SymbolMap) (func : FuncId)
     → entry_position m func ≡ position (entry_address m func) (entry_line_of m func)
 entry_is m func = by (entry_of m func)
   where

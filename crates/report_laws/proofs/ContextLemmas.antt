@@ -37,7 +37,8 @@ use Rattle.report_laws.specs.Contexts.{stands_in}
 use Rattle.report_laws.proofs.AddrOwnPartLemmas.{Segment, flat, whole_run}
 use Rattle.report_laws.proofs.ChosenLemmas.{of_chosen, shown}
 use Rattle.report_laws.proofs.NumberLemmas.{any_in, group_counts, steps_in}
-use Rattle.report_laws.proofs.CtxSumLemmas.{arcs_where, lines_where, passing}
+use Rattle.ctx_rows.proofs.FoldedLemmas.{arcs_where, lines_where}
+use Rattle.ctx_rows.proofs.ShareLemmas.{passing}
 use Rattle.report_laws.proofs.Others.{IsChain, arcs_within, chains, cost_of, each_at, each_from, is_group, number_of, on}
 use Rattle.report_laws.proofs.Others.{sum_by-each, sum_by-flat_map, sum_by-map, sum_by-same, tops}
 use Rattle.report_laws.proofs.StandLemmas.{calls_again, number_call, number_self, selfs_again}

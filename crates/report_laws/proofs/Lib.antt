@@ -1,4 +1,4 @@
-mod Others
+pub mod Others
 pub mod ExactLemmas
 pub mod ReportLemmas
 pub mod KeyLemmas
@@ -23,5 +23,8 @@ pub mod NumberLemmas
 pub mod ChosenLemmas
 pub mod JoinOrderLemmas
 pub mod AnyOrderLemmas
-pub mod CtxSumLemmas
 pub mod ContextLemmas
+pub mod SameTextLemmas
+pub mod SameFileLemmas
+pub mod SameAddressLemmas
+pub mod SameContextLemmas

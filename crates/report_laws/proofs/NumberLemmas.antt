@@ -6,7 +6,7 @@ use Rattle.std.specs.List.{list_any}
 use Rattle.std.proofs.lemmas.Bool.{and_from, and_parts, eq-eqb, eqb-true}
 use Rattle.call_graph.specs.Reach.{IsGroup, Steps, one}
 use Rattle.call_graph.specs.declared.arc.CallArc.{CallArc}
-use Rattle.run_laws.proofs.Others.{leads_after, leads_from_same, same_back, same_from_leads}
+use Rattle.report_laws.proofs.Others.{leads_after, leads_from_same, same_back, same_from_leads}
 use Rattle.cg_read.specs.Profiles.{Contents}
 use Rattle.cg_read.specs.declared.rows.CallRow.{CallRow}
 use Rattle.cycles.specs.Costs.{arc_of, call_arcs, inclusive_cost, self_cost}

@@ -11,7 +11,7 @@ use Rattle.arc_costs.specs.Lines.{is_some_line, place_of}
 use Rattle.event_costs.specs.Order.{same_arc, same_place}
 use Rattle.arc_costs.specs.Totals.{is_some_cost}
 use Rattle.arc_costs.specs.Rows.{ArcRow, LineRow}
-use Rattle.report_laws.proofs.Others.{each_weaker, sum_where, itself_arc, itself_place, one_arc, one_place}
+use Rattle.report_laws.proofs.Others.{each_weaker, sum_where, arc_itself, place_itself, arc_alike, place_alike}
 use Rattle.report_laws.specs.Sums.{AreCounted, HaveEqualSums}
 use Rattle.report_laws.proofs.KeyLemmas.{IsSome, any_same, where_same}
 
@@ -35,10 +35,10 @@ some_cost (n ∷ ns) is = by (n == 0) refl is (some_cost ns)
     by false e is later = let some : 0 < n = grind (arith, nat_tests) in (0, some)
 
 abbrev IsSomeLine : LineRow → Type 0
-IsSomeLine = IsSome same_place one_place itself_place place_of line_number
+IsSomeLine = IsSome same_place place_alike place_itself place_of line_number
 
 abbrev IsSomeArc : ArcRow → Type 0
-IsSomeArc = IsSome same_arc one_arc itself_arc arc_of arc_number
+IsSomeArc = IsSome same_arc arc_alike arc_itself arc_of arc_number
 
 some_line : (row : LineRow) → is_some_line row ≡ true → IsSomeLine row
 some_line row is = some_cost row.cost is
@@ -71,22 +71,22 @@ module _ (rows others : Listed) (equal : HaveEqualSums rows others) where
       → list_any (λ (row : LineRow). test row.place) rows.lines
       ≡ list_any (λ (row : LineRow). test row.place) others.lines
   lines_any test =
-      any_same same_place one_place itself_place place_of line_number test rows.lines others.lines
+      any_same same_place place_alike place_itself place_of line_number test rows.lines others.lines
       (some_lines rows equal.counted) (some_lines others equal.others_counted) (λ kind place. equal.lines kind place)
 
   pub lines_where : (kind : ℕ) (test : Place → Bool)
       → sum_where place_of (line_number kind) test rows.lines ≡ sum_where place_of (line_number kind) test others.lines
   lines_where kind test =
-      where_same same_place one_place itself_place place_of line_number kind test rows.lines others.lines
+      where_same same_place place_alike place_itself place_of line_number kind test rows.lines others.lines
       (λ kind place. equal.lines kind place)
 
   pub arcs_any : (test : ArcKey → Bool)
       → list_any (λ (row : ArcRow). test row.arc) rows.arcs ≡ list_any (λ (row : ArcRow). test row.arc) others.arcs
   arcs_any test =
-      any_same same_arc one_arc itself_arc arc_of arc_number test rows.arcs others.arcs
+      any_same same_arc arc_alike arc_itself arc_of arc_number test rows.arcs others.arcs
       (some_arcs rows equal.counted) (some_arcs others equal.others_counted) equal_arcs
 
   pub arcs_where : (i : Option ℕ) (test : ArcKey → Bool)
       → sum_where arc_of (arc_number i) test rows.arcs ≡ sum_where arc_of (arc_number i) test others.arcs
   arcs_where i test =
-      where_same same_arc one_arc itself_arc arc_of arc_number i test rows.arcs others.arcs equal_arcs
+      where_same same_arc arc_alike arc_itself arc_of arc_number i test rows.arcs others.arcs equal_arcs

@@ -33,7 +33,7 @@ use Rattle.report_laws.proofs.SumLemmas.{both_counted, none_counted}
 
 module _ (guest : Program) (can : CanRun guest) (past : List RunStep) (makes : Makes guest past)
     (options : ReportOptions) (texts : SourceTexts) where
-  as_counted : (text : List ℕ) (is : IsReportOfRun guest past options texts text)
+  pub as_counted : (text : List ℕ) (is : IsReportOfRun guest past options texts text)
       → IsReportOf is.profile options texts text
   as_counted text is = record {
     groups = is.groups;

@@ -1,7 +1,7 @@
 -- The rows by address of a run can be written, and have the sums of its plain rows.
 use Rattle.std.proofs.Common.{◌≡◌, inl, inr, ℕ, zero, suc, ◌<◌, ◌≤◌, ◌^◌, Bool, true}
 use Rattle.std.proofs.Common.{false, cond, List, [], ◌∷◌, ◌++◌, ◌==◌, flat_map, length}
-use Rattle.std.proofs.Common.{All, Option, None, Some, IfSome, drop, filter, get_or, map, sum_by, refl, sym, ap}
+use Rattle.std.proofs.Common.{All, filter, get_or, map, sum_by, refl, sym, ap}
 use Rattle.std.proofs.Common.{subst, arith, if◌then◌else◌, Ordering}
 use Rattle.std.specs.List.{AllByRecursion}
 use Rattle.std.specs.List.Sorted.{IsNonDecreasingBy, IsStrictlySortedBy}
@@ -21,10 +21,10 @@ use Rattle.shadow_stack.specs.Changes.{change, new_activation}
 use Rattle.shadow_stack.specs.Stacks.{Activation, Stack, root}
 use Rattle.shadow_stack.specs.declared.frame.Kind.{Kind}
 use Rattle.shadow_stack.specs.Traces.{EventOnStack}
-use Rattle.arc_costs.specs.Arcs.{arc_of, arc_sum, is_some_arc}
+use Rattle.arc_costs.specs.Arcs.{is_some_arc}
 use Rattle.arc_costs.specs.Contents.{Listed}
-use Rattle.arc_costs.specs.Keys.{by_kind, risen}
-use Rattle.arc_costs.specs.Lines.{is_some_line, line_sum, place_of as key_of}
+use Rattle.arc_costs.specs.Keys.{by_kind}
+use Rattle.arc_costs.specs.Lines.{is_some_line}
 use Rattle.event_costs.specs.Order.{arc_order, place_order, same_arc, same_place}
 use Rattle.arc_costs.specs.Rows.{ArcRow, LineRow}
 use Rattle.arc_costs.proofs.RiseLemmas as rise
@@ -36,12 +36,10 @@ use Rattle.recorder.specs.Sums as event_sums
 use Rattle.recorder.specs.Sums.{self_cost}
 use Rattle.recorder.proofs.StackLemmas.{Each, pushed_each, stack_each}
 use Rattle.profile_run.specs.Trace.{Makes, RunStep, steps_of}
-use Rattle.recorder.proofs.ArcRowLemmas.{arc_only, arc_total}
-use Rattle.report_laws.proofs.Others.{all_of, from_append, from_flat, from_map, in_filter, of_all, itself_arc}
-use Rattle.report_laws.proofs.Others.{itself_place, first_less}
-use Rattle.recorder.proofs.LineLemmas.{place_only, place_total}
+use Rattle.report_laws.proofs.Others.{arc_only, arc_total, place_only, place_total}
+use Rattle.report_laws.proofs.Others.{all_of, from_append, from_flat, from_map, in_filter, of_all, arc_itself}
+use Rattle.report_laws.proofs.Others.{place_itself, first_less}
 use Rattle.ctx_rows.proofs.HoldsLemmas.{IsReached}
-use Rattle.run_laws.proofs.AddrFoldableLemmas.{IsSmallStep, pcs_small}
 use Rattle.addr_rows.specs.Known.{AreKnown}
 use Rattle.addr_rows.specs.Plain.{plain, plain_arc, plain_line}
 use Rattle.addr_rows.specs.Rows.{AddrListed}
@@ -52,7 +50,7 @@ use Rattle.sym_map.specs.Ranges.{address_line}
 use Rattle.addr_rows.specs.EventRows.{addr_rows_of, located_rows, located_arc, located_line}
 use Rattle.addr_rows.specs.Files.{addr_rows_in}
 use Rattle.addr_rows.specs.Stacked.{with_stacks_of}
-use Rattle.addr_rows.proofs.AddressMapLemmas.{address_place}
+use Rattle.report_laws.proofs.Others.{address_place}
 use Rattle.addr_rows.proofs.KnownRowLemmas.{rows_known}
 use Rattle.run_laws.specs.Addresses.{MayBeFolded}
 use Rattle.run_laws.proofs.AddrFoldableLemmas as foldable
@@ -168,7 +166,7 @@ module _ (m : SymbolMap) where
       ]
 
 -- an event by the map of addresses whose stack and pc are those of a run
-abbrev IsGood : SymbolMap → EventOnStack → Type 0
+abbrev pub IsGood : SymbolMap → EventOnStack → Type 0
 IsGood m x = IsReached (address_map m) x × (x.event.done.pc < 2 ^ 32)
 
 -- ---- the rows of such events
@@ -177,14 +175,14 @@ whole_kinds : (f : ℕ → ℕ) → length (by_kind f) ≡ event_kinds
 whole_kinds f = length-map-range_with_len f 0 event_kinds
 
 -- what is known of a row that is summed up
-record IsLineOf (m : SymbolMap) (q : LineRow) : Type 0 where
-  small : q.place.line < 2 ^ 32
+pub record IsLineOf (m : SymbolMap) (q : LineRow) : Type 0 where
+  pub small : q.place.line < 2 ^ 32
   function : q.place.func ≡ (place_of m q.place.line).func
   whole : IsWhole q.cost
   some : is_some_line q ≡ true
 
-record IsArcOf (q : ArcRow) : Type 0 where
-  small : q.arc.line < 2 ^ 32
+pub record IsArcOf (q : ArcRow) : Type 0 where
+  pub small : q.arc.line < 2 ^ 32
   whole : IsWhole q.cost
   some : is_some_arc q ≡ true
 
@@ -192,7 +190,7 @@ module _ (m : SymbolMap) (sound : IsSound m) (ys : List EventOnStack) (good : Al
   abbrev n : SymbolMap
   n = address_map m
 
-  abbrev sums : Listed
+  abbrev pub sums : Listed
   sums = record {
     lines = filter is_some_line (map (line_at n ys) (places n ys));
     arcs = filter is_some_arc (map (arc_at n ys) (arcs n ys));
@@ -207,7 +205,7 @@ module _ (m : SymbolMap) (sound : IsSound m) (ys : List EventOnStack) (good : Al
       (let least : address_line y.event.done.pc ≡ y.event.done.pc = grind (arith, nat_tests) in
       (omega (arith, least, small), ap (λ (pc : ℕ). (place_of m pc).func) (sym least)))
 
-  line_of_sum : (q : LineRow) → IsIn sums.lines q → IsLineOf m q
+  pub line_of_sum : (q : LineRow) → IsIn sums.lines q → IsLineOf m q
   line_of_sum q there =
       let passed = in_filter is_some_line (map (line_at n ys) (places n ys)) q there in
       let key = from_map (line_at n ys) (places n ys) q passed.0 in
@@ -224,7 +222,7 @@ module _ (m : SymbolMap) (sound : IsSound m) (ys : List EventOnStack) (good : Al
         some = passed.1;
       }
 
-  arc_of_sum : (q : ArcRow) → IsIn sums.arcs q → IsArcOf q
+  pub arc_of_sum : (q : ArcRow) → IsIn sums.arcs q → IsArcOf q
   arc_of_sum q there =
       let passed = in_filter is_some_arc (map (arc_at n ys) (arcs n ys)) q there in
       let key = from_map (arc_at n ys) (arcs n ys) q passed.0 in
@@ -325,7 +323,7 @@ module _ (m : SymbolMap) (sound : IsSound m) (ys : List EventOnStack) (good : Al
         let most = may.lines k r.place in
         let share = in_sum (λ (q : LineRow). if same_place r.place q.place then get_or q.cost k 0 else 0)
         (plain rows).lines (plain_line r) (rise.in-map plain_line rows.lines r there) in
-        let steps_of_thread = yes_if (same_place r.place r.place) (get_or r.cost k 0) (itself_place r.place) in
+        let steps_of_thread = yes_if (same_place r.place r.place) (get_or r.cost k 0) (place_itself r.place) in
         let same : get_or r.cost k d ≡ get_or r.cost k 0 = get_or_default r.cost k d 0 lt in
         omega (arith, most, share, steps_of_thread, same)
 
@@ -334,7 +332,7 @@ module _ (m : SymbolMap) (sound : IsSound m) (ys : List EventOnStack) (good : Al
         let most = may.arcs k r.arc in
         let share = in_sum (λ (q : ArcRow). if same_arc r.arc q.arc then get_or q.cost k 0 else 0) (plain rows).arcs
         (plain_arc r) (rise.in-map plain_arc rows.arcs r there) in
-        let steps_of_thread = yes_if (same_arc r.arc r.arc) (get_or r.cost k 0) (itself_arc r.arc) in
+        let steps_of_thread = yes_if (same_arc r.arc r.arc) (get_or r.cost k 0) (arc_itself r.arc) in
         let same : get_or r.cost k d ≡ get_or r.cost k 0 = get_or_default r.cost k d 0 lt in
         omega (arith, most, share, steps_of_thread, same)
 
@@ -343,7 +341,7 @@ module _ (m : SymbolMap) (sound : IsSound m) (ys : List EventOnStack) (good : Al
         let most = may.calls r.arc in
         let share = in_sum (λ (q : ArcRow). if same_arc r.arc q.arc then q.calls else 0) (plain rows).arcs (plain_arc r)
         (rise.in-map plain_arc rows.arcs r there) in
-        let steps_of_thread = yes_if (same_arc r.arc r.arc) r.calls (itself_arc r.arc) in
+        let steps_of_thread = yes_if (same_arc r.arc r.arc) r.calls (arc_itself r.arc) in
         omega (arith, most, share, steps_of_thread)
 
     writable : AreKnown m rows → AreWritable m rows
@@ -378,7 +376,7 @@ module _ (guest : Program) (past : List RunStep) (thread : ℕ) (segment : List 
   events = events_on_stack_of thread (with_stacks_of (address_map guest.syms) piece.before segment)
 
   -- each step of these is one by the map of addresses, of a step of the run
-  each_good : (earlier xs : List Step) → AllByRecursion IsSmallStep xs
+  each_good : (earlier xs : List Step) → AllByRecursion foldable.IsSmallStep xs
       → AllByRecursion (λ (x : Step). IsGood guest.syms x.on_stack) (with_stacks_of (address_map guest.syms) earlier xs)
   each_good earlier [] small = tt
   each_good earlier (x ∷ xs) small = (
@@ -386,14 +384,14 @@ module _ (guest : Program) (past : List RunStep) (thread : ℕ) (segment : List 
     each_good (earlier ++ x ∷ []) xs small.1,
   )
 
-  good : AllByRecursion (IsGood guest.syms) events
+  pub good : AllByRecursion (IsGood guest.syms) events
   good =
       each_mapped (λ (x : Step). IsGood guest.syms x.on_stack) (IsGood guest.syms) (λ (x : Step). x.on_stack) (λ x is. is)
       (steps_of_thread thread (with_stacks_of (address_map guest.syms) piece.before segment))
       (each_filtered (λ (x : Step). IsGood guest.syms x.on_stack) (λ x. thread_of x == thread)
       (with_stacks_of (address_map guest.syms) piece.before segment)
-      (each_good piece.before segment (foldable.of_run guest past thread segment can makes piece IsSmallStep
-      (pcs_small guest can past makes)).1))
+      (each_good piece.before segment (foldable.of_run guest past thread segment can makes piece foldable.IsSmallStep
+      (foldable.pcs_small guest can past makes)).1))
 
   all_reached : (ys : List EventOnStack) → AllByRecursion (IsGood guest.syms) ys
       → AllByRecursion (IsReached (address_map guest.syms)) ys

@@ -8,7 +8,6 @@ use Rattle.event_costs.specs.Runs.{Run}
 use Rattle.arc_costs.specs.Contents.{Listed}
 use Rattle.sym_map.specs.SymbolMap.{SymbolMap}
 use Rattle.shadow_stack.specs.Changes.{after}
-use Rattle.shadow_stack.specs.Stacks.{is_rooted}
 use Rattle.shadow_stack.specs.Traces.{EventOnStack, stack_of}
 use Rattle.guest_sched.specs.Machine.{Machine, next}
 use Rattle.guest_sched.specs.Step.{MachineStep}
@@ -23,15 +22,15 @@ use Rattle.addr_rows.specs.Stacked.{with_stacks_of, with_stack_of}
 use Rattle.profile_run.specs.Program.{Program, CanRun}
 use Rattle.profile_run.specs.Steps.{AreTold}
 use Rattle.profile_run.specs.Trace.{Makes, RunStep, steps_of}
+use Rattle.run_laws.proofs.Others.{HaveSums}
 use Rattle.ctx_rows.specs.Folding.{AreSumsOf}
 use Rattle.once_each.specs.Runs.{AreOrderlyAfter}
 use Rattle.run_laws.proofs.EventLemmas as run_events
 use Rattle.ctx_rows.specs.Since.{StandsOn}
 use Rattle.addr_rows.specs.Files.{addr_rows_in}
-use Rattle.addr_rows.proofs.FoldLemmas.{AllLocated, AreLocated, IsLocated, folded_are, listed_calls, listed_costs, listed_lines, located_after}
+use Rattle.addr_rows.proofs.FoldLemmas.{AllLocated, AreLocated, IsLocated, folded_are, located_after, located_sums}
 use Rattle.run_laws.proofs.AnswerLemmas.{all_on, order_of}
 use Rattle.run_laws.proofs.PieceLemmas as piece_of_run
-use Rattle.run_laws.proofs.PieceLemmas.{HaveSums}
 use Rattle.run_laws.proofs.WatchedLemmas.{orderly_split}
 use Rattle.run_laws.specs.Addresses.{MayBeFolded}
 
@@ -180,11 +179,7 @@ module _ (guest : Program) (past : List RunStep) (thread : ℕ) (segment : List 
       (all_later guest.syms [] piece.before (order.0, on.0, small.0) (all_begun guest.syms))
 
   sums : HaveSums guest.syms events (plain by_address)
-  sums = record {
-    lines = λ kind place. listed_lines guest.syms fine events located_all kind place;
-    arcs = λ kind arc. listed_costs guest.syms fine events located_all kind arc;
-    calls = λ arc. listed_calls guest.syms fine events located_all arc;
-  }
+  sums = located_sums guest.syms fine events located_all
 
   pub may_fold : MayBeFolded by_address
   may_fold = record {

@@ -1,13 +1,12 @@
 -- A run over the map that tells code by its addresses is the run of the guest, with other stacks; and its answer is one of
 -- the run by address.
-use Rattle.std.proofs.Common.{◌≡◌, ◌⊎◌, inl, inr, ℕ, List, [], ◌∷◌, ◌++◌, append_assoc, flat_map, length, refl, ap, sym}
+use Rattle.std.proofs.Common.{◌≡◌, inl, inr, ℕ, List, [], ◌∷◌, ◌++◌, append_assoc, flat_map, length, refl, ap, sym}
 use Rattle.std.proofs.Common.{subst, suc, ◌∙◌, ◌+◌, Option, None, Some, Result, Ok, Err}
 use Rattle.std.proofs.lemmas.List.{append-nil, map-append}
-use Rattle.outside.specs.Outside.{Leaves, Log, Outside, Output, Tells, puts_of}
+use Rattle.outside.specs.Outside.{Log, Outside, Output, puts_of}
 use Rattle.outside.specs.Journal.{AreWritten, AreWrittenTo}
 use Rattle.outside.specs.declared.sink.WriteError.TheVariants as write
 use Rattle.event_costs.specs.Runs.{Run}
-use Rattle.event_costs.specs.declared.event.Event.{Event}
 use Rattle.event_costs.specs.declared.outcome.End.{End}
 use Rattle.cache_lru.specs.Costs.{event_cost}
 use Rattle.guest_sched.specs.Machine.{Machine, next}
@@ -20,13 +19,13 @@ use Rattle.cg_format.specs.declared.trigger.Trigger.{Trigger}
 use Rattle.profile_run.specs.Program.{Fits, Program, first_machine, head_of_run}
 use Rattle.profile_run.specs.Parts.{Writing, watched_parts}
 use Rattle.profile_run.specs.Runs.{Answers, Does, EndsPart, RunEnd, HasDone, HasDoneSome, HasFailedAt, HasFailedBehind}
-use Rattle.profile_run.specs.Runs.{IsAtPut, IsAtWrite, IsCut, IsCutShort, IsFrontOfTrace, IsWhole, Runs, whole_output}
+use Rattle.profile_run.specs.Runs.{IsAtPut, IsAtWrite, IsCut, IsCutShort, IsFrontOfTrace, Runs, whole_output}
 use Rattle.profile_run.specs.Trace.{IsTraceOf, Makes, Position, Stop, RunStep, end_before, events_of, exit_end, frames_end, next_step}
 use Rattle.profile_run.specs.Trace.{bytes_to, waiting_end, or_else, piece_to, pieces, sent_bytes, budget_end, steps_of, run_step}
 use Rattle.profile_run.specs.declared.run_fault.RunFault.{RunFault}
 use Rattle.profile_run.specs.declared.run_fault.RunFault.TheVariants as fault
 use Rattle.run_laws.proofs.Others.{goes_is, address_code, address_names, code_back}
-use Rattle.profile_run.proofs.TraceLemmas.{going-end, going-over, going-step}
+use Rattle.run_laws.proofs.Others.{going-end, going-over, going-step}
 use Rattle.sym_map.specs.AddressMap.{address_map}
 use Rattle.addr_rows.specs.Files.{addr_files, closed_files}
 use Rattle.addr_rows.specs.Stacked.{AreOn, with_stacks_of, with_stack_of}

@@ -31,7 +31,7 @@ use Rattle.once_each.specs.Runs.{AreOrderly, AreOrderlyAfter}
 use Rattle.ctx_rows.specs.Since.{StandsOn}
 use Rattle.ctx_rows.specs.States.{CtxState}
 use Rattle.ctx_rows.specs.Watching.{IsFresh, by_context}
-use Rattle.ctx_rows.proofs.FoldedLemmas.{folded_are}
+use Rattle.run_laws.proofs.Others.{folded_are}
 use Rattle.ctx_rows.proofs.LastLemmas.{all_stand}
 use Rattle.ctx_rows.proofs.PutLemmas.{cut_puts, run_puts}
 use Rattle.run_laws.proofs.EventLemmas.{orderly}

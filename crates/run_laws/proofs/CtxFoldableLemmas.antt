@@ -1,5 +1,4 @@
 -- The rows by context of a run can be folded, and the plain rows are their sums.
-use Rattle.run_laws.proofs.Others.{listed_sums}
 use Rattle.std.proofs.Common.{ℕ, List}
 use Rattle.std.specs.List.{AllByRecursion}
 use Rattle.shadow_stack.specs.Traces.{EventOnStack}
@@ -11,10 +10,10 @@ use Rattle.ctx_rows.specs.Folding.{AreSumsOf, HaveContexts, plain}
 use Rattle.ctx_rows.specs.Known.{AreKnown}
 use Rattle.ctx_rows.specs.Rows.{CtxListed, ctx_rows_of}
 use Rattle.ctx_rows.specs.Since.{StandsOn}
-use Rattle.ctx_rows.proofs.FoldedLemmas.{listed_calls, listed_costs}
+use Rattle.run_laws.proofs.Others.{folded_sums}
 use Rattle.ctx_rows.proofs.KnownRowLemmas.{rows_known}
+use Rattle.run_laws.proofs.Others.{HaveSums}
 use Rattle.run_laws.proofs.PieceLemmas as piece_of_run
-use Rattle.run_laws.proofs.PieceLemmas.{HaveSums}
 use Rattle.run_laws.specs.Contexts.{MayBeFolded}
 
 module _ (guest : Program) (past : List RunStep) (callers thread : ℕ) (segment : List Step) (can : CanRun guest)
@@ -28,7 +27,7 @@ module _ (guest : Program) (past : List RunStep) (callers thread : ℕ) (segment
   on : AllByRecursion (StandsOn guest.syms) events
   on = piece_of_run.on guest past thread segment can makes piece
 
-  known : AreKnown guest.syms by_context
+  pub known : AreKnown guest.syms by_context
   known =
       rows_known guest.syms can.sound callers events on (piece_of_run.reached guest past thread segment can makes piece)
 
@@ -40,11 +39,7 @@ module _ (guest : Program) (past : List RunStep) (callers thread : ℕ) (segment
   }
 
   sums : HaveSums guest.syms events (plain by_context)
-  sums = record {
-    lines = λ kind place. listed_sums callers guest.syms events on kind place;
-    arcs = λ kind arc. listed_costs callers guest.syms events on kind arc;
-    calls = λ arc. listed_calls callers guest.syms events on arc;
-  }
+  sums = folded_sums callers guest.syms events on
 
   pub may_fold : MayBeFolded by_context
   may_fold = record {

@@ -6,13 +6,13 @@ use Rattle.std.proofs.lemmas.List.{length-map, map-append}
 use Rattle.std.proofs.lemmas.List.Elements.{All-from_recursion}
 use Rattle.event_costs.specs.Runs.{Run}
 use Rattle.shadow_stack.specs.Traces.{events_on_stacks}
-use Rattle.cache_lru.proofs.HistoryLemmas.{event_cost-ones}
+use Rattle.once_each.proofs.Others.{event_cost-ones}
 use Rattle.guest_load.specs.First.{guest_at_start}
 use Rattle.guest_load.specs.Guest.{Guest}
 use Rattle.guest_sched.specs.Laws.{IsReached}
 use Rattle.guest_sched.specs.Machine.{Machine, next}
 use Rattle.guest_sched.specs.Step.{MachineStep}
-use Rattle.guest_sched.proofs.MoveLemmas.{next_is, step_is}
+use Rattle.run_laws.proofs.Others.{next_is, step_is}
 use Rattle.run_laws.proofs.Others.{Holds, holds_first, holds_next, of_machine}
 use Rattle.part_dump.specs.Steps.{Step, thread_of}
 use Rattle.profile_run.specs.Program.{Program, first_machine, CanRun}

@@ -2,6 +2,9 @@ pub mod Others
 pub mod CostLemmas
 pub mod EventLemmas
 pub mod LoadedLemmas
+pub mod NextLemmas
+pub mod SameStackLemmas
+pub mod SameRunLemmas
 pub mod OwnPartLemmas
 pub mod OwnRowLemmas
 pub mod WorkLemmas

@@ -172,7 +172,7 @@ module _ (guest : Program) (can : CanRun guest) (past : List RunStep) (makes : M
   abbrev segments : List Segment
   segments = segments_of syms guest.options.dump_points run
 
-  together : flat_map (λ (s : Segment). s.0) segments ≡ run
+  pub together : flat_map (λ (s : Segment). s.0) segments ≡ run
   together =
       let closed = (cuts syms guest.options.dump_points run).closed in
       let recent = (cuts syms guest.options.dump_points run).recent in

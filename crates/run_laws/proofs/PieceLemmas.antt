@@ -12,7 +12,6 @@ use Rattle.sym_map.specs.SymbolMap.{SymbolMap}
 use Rattle.shadow_stack.specs.Traces.{EventOnStack}
 use Rattle.part_dump.specs.Steps.{Step, steps_of_thread, events_on_stack_of, thread_of, IsPiece}
 use Rattle.recorder.specs.Laws.{IsIn}
-use Rattle.recorder.specs.Sums.{arc_calls, arc_cost, self_cost}
 use Rattle.recorder.specs.Rows.{rows_of}
 use Rattle.recorder.specs.Standing.{AreRowsOf}
 use Rattle.run_laws.proofs.Others.{in_left, in_right, all_of, of_all, from_map, in_filter, all_sum_up, whole_arcs}
@@ -20,15 +19,10 @@ use Rattle.run_laws.proofs.Others.{whole_lines, of_machine, IsReached}
 use Rattle.profile_run.specs.Program.{Program, CanRun}
 use Rattle.profile_run.specs.Trace.{Makes, RunStep, steps_of}
 use Rattle.profile_run.proofs.SizeLemmas.{IsSmall, are_few, are_small, arc_fits, calls_fit, fewer, self_fits}
+use Rattle.run_laws.proofs.Others.{HaveSums}
 use Rattle.ctx_rows.specs.Folding.{AreSumsOf}
 use Rattle.ctx_rows.specs.Since.{StandsOn}
 use Rattle.run_laws.proofs.AnswerLemmas.{all_on, each_reached, order_of}
-
--- rows have the sums of these events, each place and arc any number of times
-pub record HaveSums (syms : SymbolMap) (xs : List EventOnStack) (all : Listed) : Type 0 where
-  pub lines : (kind : ℕ) (place : Place) → line_sum kind place all.lines ≡ self_cost syms kind place xs
-  pub arcs : (kind : ℕ) (arc : ArcKey) → arc_sum kind arc all.arcs ≡ arc_cost kind arc xs
-  pub calls : (arc : ArcKey) → call_sum arc all.arcs ≡ arc_calls syms arc xs
 
 module _ (guest : Program) (past : List RunStep) (thread : ℕ) (segment : List Step) (can : CanRun guest)
     (makes : Makes guest past) (piece : IsPiece (steps_of past) segment) where

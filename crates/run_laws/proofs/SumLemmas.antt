@@ -27,7 +27,7 @@ use Rattle.profile_run.specs.Program.{Program, CanRun}
 use Rattle.profile_run.specs.Trace.{Makes, RunStep, steps_of}
 use Rattle.once_each.proofs.PartLemmas as parts
 use Rattle.once_each.proofs.StackLemmas.{on_arc}
-use Rattle.once_each.proofs.SumLemmas.{sum_by-same}
+use Rattle.run_laws.proofs.Others.{sum_by-same}
 use Rattle.run_laws.specs.Runs.{events_with_costs, events_with_stacks, rows_of_run, thread_rows}
 use Rattle.run_laws.proofs.EventLemmas.{have_stacks}
 use Rattle.run_laws.proofs.PartLemmas.{parts_of_trace}

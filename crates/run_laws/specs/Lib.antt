@@ -4,3 +4,4 @@ pub mod ThreadWork
 pub mod OwnParts
 pub mod Contexts
 pub mod Addresses
+pub mod Maps

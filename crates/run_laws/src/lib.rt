@@ -8,6 +8,7 @@ mod by_address;
 mod by_context;
 mod costs;
 mod events;
+mod maps;
 mod own_parts;
 mod own_rows;
 mod parts;
@@ -27,6 +28,7 @@ pub use costs::{
     totals_of_a_run_count_all_events,
 };
 pub use events::steps_of_a_guest_are_its_events;
+pub use maps::maps_that_tell_the_same_make_one_run;
 pub use own_parts::{own_parts_are_held, own_parts_read_as_the_rows_of_the_run};
 pub use own_rows::{rows_of_a_thread_are_of_its_own_events, turns_change_no_work};
 pub use parts::parts_of_a_run_have_the_sums_of_its_events;

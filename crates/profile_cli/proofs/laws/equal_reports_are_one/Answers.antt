@@ -1,0 +1,31 @@
+use Rattle.std.proofs.Common.{◌++◌, ◌∙◌, sym}
+use Rattle.outside.specs.Write.{taken_more}
+use Rattle.command_status.specs.Lines.{message_of}
+use Rattle.profile_run.specs.Trace.{sent_bytes}
+use Rattle.profile_cli.specs.Watching.{files_at}
+use Rattle.profile_cli.proofs.OneRunLemmas.{files_at_same, folder_same, moved, reports_same, status_same, traces_same}
+use Rattle.profile_cli.proofs.laws.equal_reports_are_one.Goals as goal
+
+pub returns-clause-files : goal.returns-clause-files
+returns-clause-files c = λ old other job positions view status end new left first second one_can other_can same equal.
+    let at = files_at positions in
+    folder_same old other job at at status end new left first.run second.run one_can other_can same equal
+    (files_at_same job second.run.program second.run.input (moved same equal first.run.run) second.run.run one_can
+    other_can positions)
+
+pub returns-clause-out : goal.returns-clause-out
+returns-clause-out c = λ old other job positions view status end new left first second one_can other_can same equal texts taken.
+    let run = moved same equal first.run.run in
+    let trace = traces_same job second.run.program second.run.input run second.run.run one_can other_can in
+    let text = reports_same job second.run.program second.run.input run second.run.run one_can other_can view
+    first.report_on second.report_on texts in
+    first.out ∙ (λ i. taken_more (taken i) (sent_bytes 1 (trace i) ++ text i)) ∙ sym second.out
+
+pub returns-clause-err : goal.returns-clause-err
+returns-clause-err c = λ old other job positions view status end new left first second one_can other_can same equal taken.
+    let at = files_at positions in
+    let run = moved same equal first.run.run in
+    let trace = traces_same job second.run.program second.run.input run second.run.run one_can other_can in
+    let statuses = status_same old other job at at status end new left first.run second.run one_can other_can same
+    equal in
+    first.err ∙ (λ i. taken_more (taken i) (sent_bytes 2 (trace i) ++ message_of (statuses i))) ∙ sym second.err
