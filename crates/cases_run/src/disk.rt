@@ -2,7 +2,7 @@
 
 use crate::process::{exit_of, status_of};
 use anyhow::{Context, Result};
-use cases_script::{Leavings, command_words, print_calls};
+use cases_script::{Leavings, print_calls, words_of_line};
 use outside::{DirFolder, FolderCall, Traced};
 use std::process::ExitCode;
 
@@ -10,7 +10,7 @@ use std::process::ExitCode;
 /// to the sinks.
 pub fn run(rt: &HostRuntime, line: &str) -> Result<()> {
     let alloc = rt.alloc();
-    let words = command_words(alloc, line)?;
+    let words = words_of_line(alloc, line)?;
     let mut folder = Traced::new(alloc, DirFolder::new(rt));
     let mut left = Leavings::new(alloc);
     let code = exit_of(alloc, words, &mut folder, &mut left.out, &mut left.err);

@@ -1,12 +1,12 @@
 //! What the words of a command ask for.
 
 use anyhow::Result;
-use cases_script::command_words;
+use cases_script::words_of_line;
 use command_words::read_words;
 
 /// Prints what the words of a line ask for, before which stands the program's own name.
 pub fn print_asked(rt: &HostRuntime, line: &str) -> Result<()> {
-    let words = command_words(rt.alloc(), line)?;
+    let words = words_of_line(rt.alloc(), line)?;
     print(rt, &words)
 }
 

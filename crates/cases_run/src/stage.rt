@@ -3,7 +3,7 @@
 use crate::process::{exit_of, status_of};
 use crate::{disk, requests};
 use anyhow::{Result, ensure};
-use cases_script::{Leavings, Setting, command_words};
+use cases_script::{Leavings, Setting, words_of_line};
 use script_lines::Scene;
 use std::alloc::Global;
 use std::process::ExitCode;
@@ -60,7 +60,7 @@ fn run(rt: &HostRuntime, setting: &mut Setting, line: &str) -> Result<()> {
 
 /// Does a command, without memory where that is asked for, and answers what a process ends with.
 fn run_once(alloc: Global, setting: &mut Setting, line: &str) -> Result<ExitCode> {
-    let words = command_words(alloc, line)?;
+    let words = words_of_line(alloc, line)?;
     let hoard = setting.hoard()?;
     let code = run_over(alloc, words, &mut setting.leavings);
     drop(hoard);
@@ -69,7 +69,7 @@ fn run_once(alloc: Global, setting: &mut Setting, line: &str) -> Result<ExitCode
 
 /// Does a command again with sinks that take a piece at a time, which have to get the same bytes.
 fn run_in_pieces(alloc: Global, setting: &Setting, line: &str, code: ExitCode) -> Result<()> {
-    let words = command_words(alloc, line)?;
+    let words = words_of_line(alloc, line)?;
     let mut left = setting.in_pieces()?;
     let other = run_over(alloc, words, &mut left);
     ensure!(other == code, "pieces change the status");

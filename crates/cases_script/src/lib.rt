@@ -14,4 +14,4 @@ mod words;
 pub use calls::print_calls;
 pub use leavings::Leavings;
 pub use setting::Setting;
-pub use texts::command_words;
+pub use texts::words_of_line;

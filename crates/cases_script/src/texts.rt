@@ -56,7 +56,7 @@ fn word_of(alloc: Global, text: &str) -> Result<String> {
 }
 
 /// The words of a command, the program's own name first; of an empty line that is the only one.
-pub fn command_words(alloc: Global, line: &str) -> Result<Vec<String>> {
+pub fn words_of_line(alloc: Global, line: &str) -> Result<Vec<String>> {
     let mut words = Vec::new(alloc);
     words.push(String::from_str(alloc, "cgprof")?)?;
     if !line.is_empty() {
