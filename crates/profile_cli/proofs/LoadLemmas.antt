@@ -1,9 +1,13 @@
 -- Loads, and the gates of what was loaded.
 use Rattle.std.proofs.Common.{◌≡◌, ℕ, ◌≤◌, ◌<◌, ◌-◌, ◌^◌, min, Bool, cond, List, [], Option, Some, None, Ok, Err}
-use Rattle.std.proofs.Common.{refl, sym, ap, ◌∙◌, arith}
+use Rattle.std.proofs.Common.{refl, sym, ap, ◌∙◌, arith, Result, Vec}
+use Rattle.std.specs.declared.alloc.Global.{Global}
+use Rattle.std.specs.Result.{result_ok}
+use Rattle.std.specs.Option.{option_map_or}
 use Rattle.std.proofs.lemmas.Bool.{le-ltb, lt-ltb}
-use Rattle.outside.specs.Files.{Files}
-use Rattle.outside.specs.Load.{Load, LoadAnswers}
+use Rattle.outside.specs.Files.{Files, file}
+use Rattle.outside.specs.Load.{Load, LoadAnswers, load_of}
+use Rattle.outside.specs.declared.folder.LoadError.{LoadError}
 use Rattle.outside.specs.declared.folder.LoadError.TheVariants as load
 use Rattle.elf_read.specs.Image.{Image}
 use Rattle.guest_load.specs.Arguments.{NeedsTooMany, arguments_len}
@@ -44,6 +48,29 @@ pub IsLoadIf-within : (files : Option Files) (name : Option (List ℕ)) (limit f
 IsLoadIf-within files None limit first before now last found early late is = is
 IsLoadIf-within files (Some name) limit first before now last found early late loads =
     IsLoad-within files name limit first before now last found early late loads
+
+-- ---- what was loaded of a folder that tells its contents
+
+told_bytes : (contents : Files) (name : List ℕ) (limit before now : ℕ) (bytes : List ℕ)
+    (answer : Result (Vec ℕ Global) LoadError) → LoadAnswers (Some contents) name limit before now answer
+    → Ok bytes ≡ load_of answer → file contents name ≡ Some bytes
+told_bytes contents name limit before now bytes (Ok vec) answers is = answers.0 ∙ sym (ap result_ok is)
+told_bytes contents name limit before now bytes (Err error) answers is = absurd (cc)
+
+pub one_load : (contents : Files) (name : List ℕ) (limit a b c d : ℕ) (one other : List ℕ)
+    → IsLoad (Some contents) name limit a b (Ok one) → IsLoad (Some contents) name limit c d (Ok other) → one ≡ other
+one_load contents name limit a b c d one other first second =
+    ap (λ o. option_map_or (λ (bytes : List ℕ). bytes) o [])
+    (sym (told_bytes contents name limit a b one first.answer first.answers first.is)
+    ∙ told_bytes contents name limit c d other second.answer second.answers second.is)
+
+pub one_input : (contents : Files) (name : Option (List ℕ)) (limit a b c d : ℕ) (one other : List ℕ)
+    → IsLoadIf (Some contents) name limit a b (Ok one) → IsLoadIf (Some contents) name limit c d (Ok other)
+    → one ≡ other
+one_input contents None limit a b c d one other first second =
+    ap (λ o. option_map_or (λ (bytes : List ℕ). bytes) o []) (ap result_ok (first ∙ sym second))
+one_input contents (Some name) limit a b c d one other first second =
+    one_load contents name limit a b c d one other first second
 
 -- ---- what must fit
 

@@ -1,9 +1,12 @@
 -- A job has one run and one report.
-use Rattle.std.proofs.Common.{◌≡◌, ℕ, ◌∙◌, List, [], ◌∷◌, ◌++◌, Option, None, Some, ap, subst, sym}
+use Rattle.std.proofs.Common.{◌≡◌, ℕ, ◌∙◌, List, [], ◌∷◌, ◌++◌, Ok, Option, None, Some, ap, subst, sym}
 use Rattle.std.specs.List.{slice_get}
 use Rattle.std.proofs.lemmas.Option.{get_or_from_slice_get, slice_get_within}
 use Rattle.std.specs.Option.{option_map}
+use Rattle.outside.specs.Files.{Files}
 use Rattle.outside.specs.Outside.{Outside, with_files}
+use Rattle.profile_files.specs.Loads.{IsLoad}
+use Rattle.command_steps.specs.Loading.{IsLoadIf, input_limit}
 use Rattle.command_status.specs.Ends.{end_status}
 use Rattle.command_status.specs.declared.status.Status.{Status}
 use Rattle.elf_read.specs.Image.{image_of}
@@ -21,8 +24,11 @@ use Rattle.command_words.specs.Request.{AddressAndLine, Addresses, Contexts, Job
 use Rattle.command_steps.specs.Annotate.{IsSortPlace, report_options}
 use Rattle.profile_cli.specs.HasRun.{HasRun, RunFiles, RunOf, files_put}
 use Rattle.profile_cli.specs.Headline.{ReportOn}
+use Rattle.profile_cli.specs.Order.{program_limit}
+use Rattle.profile_cli.specs.Words.{program_of}
 use Rattle.profile_cli.specs.Program.{IsMapOf, guest_of}
 use Rattle.profile_cli.specs.Watching.{files_asked, files_at, output_asked, waits_file}
+use Rattle.profile_cli.proofs.LoadLemmas.{one_input, one_load}
 use Rattle.profile_cli.proofs.OneMapLemmas.{one_number, tell_the_same}
 
 -- the event to sort by has one place
@@ -133,6 +139,25 @@ module _ (job : Job) (program input : List ℕ) (one other : RunOf job program i
       (sym traces_same) second.report))))
 
 -- ---- commands
+
+-- what two commands of one job loaded, over folders that tell the same
+pub loads_same : (old other : Outside) (contents : Files) (job : Job) (put more : RunFiles) (status end : Status)
+    (new left : Outside) (first : HasRun old job put status new) (second : HasRun other job more end left)
+    → old.files ≡ Some contents → other.files ≡ Some contents
+    → (first.program ≡ second.program) × (first.input ≡ second.input)
+loads_same old other contents job put more status end new left first second told also = (
+  one_load contents (program_of job.args) program_limit old.load_faults new.load_faults other.load_faults
+      left.load_faults first.program second.program
+      (subst (λ files. IsLoad files (program_of job.args) program_limit old.load_faults new.load_faults
+      (Ok first.program)) told first.loaded)
+      (subst (λ files. IsLoad files (program_of job.args) program_limit other.load_faults left.load_faults
+      (Ok second.program)) also second.loaded),
+  one_input contents job.input input_limit old.load_faults new.load_faults other.load_faults left.load_faults first.input
+      second.input
+      (subst (λ files. IsLoadIf files job.input input_limit old.load_faults new.load_faults (Ok first.input)) told first.fed)
+      (subst (λ files. IsLoadIf files job.input input_limit other.load_faults left.load_faults (Ok second.input)) also
+      second.fed),
+)
 
 module _ (old other : Outside) (job : Job) (put more : RunFiles) (status end : Status) (new left : Outside)
     (first : HasRun old job put status new) (second : HasRun other job more end left)

@@ -1,6 +1,6 @@
 -- What a command met on its way. Where it did not come to something, or it is not known how that went, memory was
 -- wanting there, which has no cause to show.
-use Rattle.std.specs.Prelude.{◌≡◌, ℕ, Bool, true, List, Option, None, Result, Err}
+use Rattle.std.specs.Prelude.{ℕ, Bool, true, List, Option, None, Result, Err}
 use Rattle.outside.specs.Outside.{Output}
 use Rattle.outside.specs.declared.folder.LoadError.TheVariants as load
 use Rattle.outside.specs.declared.folder.PutError.{PutError}

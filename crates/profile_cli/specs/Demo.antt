@@ -1,6 +1,6 @@
 -- The work of `demo`: the demonstration program of a size runs, its own parts are read again and joined, and a summary
 -- is written.
-use Rattle.std.specs.Prelude.{◌≡◌, ℕ, ◌++◌, false, IfOk, IfSome, List, [], ◌∷◌, codes, length, Result, Ok, Err}
+use Rattle.std.specs.Prelude.{◌≡◌, ℕ, false, IfOk, IfSome, List, [], ◌∷◌, codes, length, Result, Ok, Err}
 use Rattle.event_costs.specs.Costs.{event_names, events_shown}
 use Rattle.outside.specs.Outside.{Outside}
 use Rattle.event_costs.specs.declared.outcome.End.{End}

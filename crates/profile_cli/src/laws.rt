@@ -1,6 +1,7 @@
 //! What is so of all commands. That a program can be run is a field of the clause of `profile`.
 
-ghost use Rattle.std.specs.Prelude.{◌≡◌, ℕ, List};
+ghost use Rattle.std.specs.Prelude.{◌≡◌, ℕ, List, Some};
+ghost use Rattle.outside.specs.Files.{Files};
 ghost use Rattle.outside.specs.Outside.{Outside};
 ghost use Rattle.command_status.specs.declared.status.Status.{Status};
 ghost use Rattle.command_words.specs.Request.{Job, Positions, View, Watching};
@@ -32,15 +33,22 @@ pub fn a_job_has_one_run()
 /// Two commands with one job, over equal programs that can be run and inputs, end alike. It does nothing: its contract
 /// is a law.
 pub fn equal_commands_end_alike()
+    // Over folders that tell the same they load the same.
+    ensures loads { (old other : Outside) (contents : Files) (job : Job) (put more : RunFiles) (status end : Status)
+        (new left : Outside) (first : HasRun old job put status new) (second : HasRun other job more end left)
+        → old.files ≡ Some contents → other.files ≡ Some contents
+        → (first.program ≡ second.program) × (first.input ≡ second.input) }
     // They have the same status, whether they are runs or reports,
     ensures status { (old other : Outside) (job : Job) (put more : RunFiles) (status end : Status) (new left : Outside)
         (first : HasRun old job put status new) (second : HasRun other job more end left)
-        → CanRun first.run.guest → CanRun second.run.guest → first.program ≡ second.program → first.input ≡ second.input → status ≡ end }
+        → CanRun first.run.guest → CanRun second.run.guest → first.program ≡ second.program
+        → first.input ≡ second.input → status ≡ end }
     // and over equal folders leave equal folders.
     ensures files { (old other : Outside) (job : Job) (watching : Watching) (status end : Status) (new left : Outside)
         (first : HasRun old job (files_asked watching) status new)
         (second : HasRun other job (files_asked watching) end left)
-        → CanRun first.run.guest → CanRun second.run.guest → first.program ≡ second.program → first.input ≡ second.input → old.files ≡ other.files → new.files ≡ left.files }
+        → CanRun first.run.guest → CanRun second.run.guest → first.program ≡ second.program
+        → first.input ≡ second.input → old.files ≡ other.files → new.files ≡ left.files }
 {}
 
 /// Two reports with one job and view, over equal programs that can be run, inputs and source texts, are the same bytes.

@@ -1,6 +1,9 @@
 use Rattle.profile_cli.specs.Watching.{files_asked}
-use Rattle.profile_cli.proofs.OneRunLemmas.{files_same, folder_same, run, status_same}
+use Rattle.profile_cli.proofs.OneRunLemmas.{files_same, folder_same, loads_same, run, status_same}
 use Rattle.profile_cli.proofs.laws.equal_commands_end_alike.Goals as goal
+
+pub returns-clause-loads : goal.returns-clause-loads
+returns-clause-loads c = loads_same
 
 pub returns-clause-status : goal.returns-clause-status
 returns-clause-status c = status_same
