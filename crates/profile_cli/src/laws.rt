@@ -1,6 +1,6 @@
 //! What is so of all commands. That a program can be run is a field of the clause of `profile`.
 
-ghost use Rattle.std.specs.Prelude.{◌≡◌, ℕ, List, Some};
+ghost use Rattle.std.specs.Prelude.{◌≡◌, ℕ, List, Some, false};
 ghost use Rattle.outside.specs.Files.{Files};
 ghost use Rattle.outside.specs.Outside.{Outside};
 ghost use Rattle.command_status.specs.declared.status.Status.{Status};
@@ -67,6 +67,13 @@ pub fn equal_reports_are_one()
         → CanRun first.run.run.guest → CanRun second.run.run.guest → first.run.program ≡ second.run.program
         → first.run.input ≡ second.run.input → first.report_on.texts ≡ second.report_on.texts
         → old.out.taken ≡ other.out.taken → new.out.taken ≡ left.out.taken }
+    // Where the view shows no sources there are none to compare.
+    ensures bare { (old other : Outside) (job : Job) (positions : Positions) (view : View) (status end : Status)
+        (new left : Outside) (first : IsExactReport old job positions view status new)
+        (second : IsExactReport other job positions view end left)
+        → CanRun first.run.run.guest → CanRun second.run.run.guest → first.run.program ≡ second.run.program
+        → first.run.input ≡ second.run.input → view.auto ≡ false → old.out.taken ≡ other.out.taken
+        → new.out.taken ≡ left.out.taken }
     ensures err { (old other : Outside) (job : Job) (positions : Positions) (view : View) (status end : Status)
         (new left : Outside) (first : IsExactReport old job positions view status new)
         (second : IsExactReport other job positions view end left)
