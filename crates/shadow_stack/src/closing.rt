@@ -72,3 +72,20 @@ pub fn restart<S: ArcSink>(arena: &mut Arena, head: Head, total: &Cost, sink: &m
         at = beneath;
     }
 }
+
+/// Tells of each frame of a chain from the top down, which stays as it is.
+pub fn tell_all<S: ArcSink>(arena: &Arena, head: Head, total: &Cost, sink: &mut S)
+    requires lies { LiesIn arena.now.slots head }
+    requires starts { StartWithin total.now (frames arena.now.slots head) }
+    requires tellings { S.can_take sink.old (closings total.now (frames arena.now.slots head)) }
+    ensures { TakesAll S.takes sink.old (closings total.now (frames arena.now.slots head)) sink.new }
+{
+    let mut at = head;
+    'told: while at.depth > 0 {
+        let node = arena.top(at);
+        let frame = node.frame;
+        let beneath = at.beneath(node);
+        tell(&frame, total, sink);
+        at = beneath;
+    }
+}

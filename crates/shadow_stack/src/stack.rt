@@ -12,7 +12,7 @@ ghost use Rattle.shadow_stack.specs.Frames.{StartWithin, tellings};
 
 use crate::arena::{Arena, Head};
 use crate::changing::change;
-use crate::closing::restart;
+use crate::closing::{restart, tell_all};
 use crate::frame::{Frame, Kind};
 use crate::reading::{frame_at, top_of};
 use byte_text::OutOfMemory;
@@ -98,6 +98,15 @@ impl ShadowStack {
         ensures room { self.new.spare ≡ self.old.spare }
     {
         restart(&mut self.arena, self.head, total, sink);
+    }
+
+    /// Tells of each frame, from the top down, with what it has cost at the thread's total. It takes no memory.
+    pub fn tell_open<S: ArcSink>(&self, total: &Cost, sink: &mut S)
+        requires starts { StartWithin total.now self.now.frames }
+        requires tellings { S.can_take sink.old (closings total.now self.now.frames) }
+        ensures { TakesAll S.takes sink.old (closings total.now self.now.frames) sink.new }
+    {
+        tell_all(&self.arena, self.head, total, sink);
     }
 
     /// The function of the top frame, nothing exactly after the thread's end.
