@@ -23,6 +23,7 @@ use Rattle.part_dump.specs.Cuts.{every_cut, has_name, leaves, marked_after, most
 use Rattle.part_dump.specs.Steps.{Step, event_of, frames_in, live, steps_of_thread, events_of_thread, stack_at, thread_of}
 use Rattle.part_dump.specs.Steps.{threads}
 use Rattle.part_dump.proofs.StepLemmas.{length-push, own-append}
+use Rattle.ctx_rows.proofs.ShareLemmas.{sums_same}
 use Rattle.addr_rows.specs.Stacked.{AreOn, with_stacks_of, with_stack_of}
 use Rattle.addr_rows.proofs.AlikeLemmas.{SameCode, alike_change, alike_gone, alike_of, shape, shaped, shapes}
 
@@ -149,23 +150,14 @@ frames_from k (a ∷ s) = frames_from (k + cond (not (is_root a.kind)) 1 0) s
 frames_shaped : (s : Stack) → frames_in (shapes s) ≡ frames_in s
 frames_shaped s = frames_from 0 s
 
-sums_from : (f g : ℕ → ℕ) → ((t : ℕ) → f t ≡ g t) → (k : ℕ) (ts : List ℕ)
-    → fold (λ sum t. sum + f t) k ts ≡ fold (λ sum t. sum + g t) k ts
-sums_from f g same k [] = refl
-sums_from f g same k (t ∷ ts) =
-    ap (λ j. fold (λ sum u. sum + f u) (k + j) ts) (same t) ∙ sums_from f g same (k + g t) ts
-
-sums_same : (f g : ℕ → ℕ) → ((t : ℕ) → f t ≡ g t) → (ts : List ℕ) → sum_by f ts ≡ sum_by g ts
-sums_same f g same ts = sums_from f g same 0 ts
-
 module _ (m n : SymbolMap) (same : SameCode n m)
     (names : (name : List ℕ) (func : FuncId) → has_name m name func ≡ has_name n name func) where
   -- as many frames are live
   pub live_stacked : (xs : List Step) → live m (with_stacks_of m [] xs) ≡ live n xs
   live_stacked xs =
       ap (λ ts. sum_by (λ t. frames_in (stack_at m (with_stacks_of m [] xs) t 0)) ts) (threads_stacked m [] xs)
-      ∙ sums_same (λ t. frames_in (stack_at m (with_stacks_of m [] xs) t 0)) (λ t. frames_in (stack_at n xs t 0)) each
-      (threads xs)
+      ∙ sums_same (λ t. frames_in (stack_at m (with_stacks_of m [] xs) t 0)) (λ t. frames_in (stack_at n xs t 0))
+      (threads xs) (λ t there. each t)
     where
       each : (t : ℕ) → frames_in (stack_at m (with_stacks_of m [] xs) t 0) ≡ frames_in (stack_at n xs t 0)
       each t =

@@ -1,7 +1,7 @@
 -- The contexts of rows are among those that the rows are numbered by.
-use Rattle.std.proofs.Common.{◌≡◌, inl, inr, ℕ, zero, suc, ◌<◌, List, [], ◌∷◌}
+use Rattle.std.proofs.Common.{inl, inr, ℕ, zero, suc, ◌<◌, List, [], ◌∷◌}
 use Rattle.std.proofs.Common.{All, Contains, flat_map, get_or, length, map}
-use Rattle.std.proofs.Common.{refl, sym, subst, arith}
+use Rattle.std.proofs.Common.{refl, arith}
 use Rattle.recorder.specs.Laws.{IsIn}
 use Rattle.ctx_rows.proofs.Others.{in_left, in_right, in_flat}
 use Rattle.arc_costs.proofs.RiseLemmas.{in-map}
@@ -25,42 +25,18 @@ lines_there rows k d less =
     (flat_map (λ (r : CtxArc). r.caller ∷ (r.callee ∷ [])) rows.arcs) row.ctx
     (in-map (λ (r : CtxLine). r.ctx) rows.lines row (in_at rows.lines k d less)))
 
-pub callers_there : (rows : CtxListed) → All (λ (row : CtxArc). Contains (contexts_in rows) row.caller) rows.arcs
-callers_there rows k d less =
-    let row = get_or rows.arcs k d in
-    in_rising (all_contexts rows) row.caller
+-- the two of an arc
+ends_there : (rows : CtxListed) (k : ℕ) (d : CtxArc) (c : Context) → k < length rows.arcs
+    → IsIn ((get_or rows.arcs k d).caller ∷ ((get_or rows.arcs k d).callee ∷ [])) c → Contains (contexts_in rows) c
+ends_there rows k d c less end =
+    in_rising (all_contexts rows) c
     (in_right (map (λ (r : CtxLine). r.ctx) rows.lines)
-    (flat_map (λ (r : CtxArc). r.caller ∷ (r.callee ∷ [])) rows.arcs) row.caller
-    (in_flat (λ (r : CtxArc). r.caller ∷ (r.callee ∷ [])) rows.arcs row row.caller (in_at rows.arcs k d less)
-    (inl refl)))
+    (flat_map (λ (r : CtxArc). r.caller ∷ (r.callee ∷ [])) rows.arcs) c
+    (in_flat (λ (r : CtxArc). r.caller ∷ (r.callee ∷ [])) rows.arcs (get_or rows.arcs k d) c
+    (in_at rows.arcs k d less) end))
+
+pub callers_there : (rows : CtxListed) → All (λ (row : CtxArc). Contains (contexts_in rows) row.caller) rows.arcs
+callers_there rows k d less = ends_there rows k d (get_or rows.arcs k d).caller less (inl refl)
 
 pub callees_there : (rows : CtxListed) → All (λ (row : CtxArc). Contains (contexts_in rows) row.callee) rows.arcs
-callees_there rows k d less =
-    let row = get_or rows.arcs k d in
-    in_rising (all_contexts rows) row.callee
-    (in_right (map (λ (r : CtxLine). r.ctx) rows.lines)
-    (flat_map (λ (r : CtxArc). r.caller ∷ (r.callee ∷ [])) rows.arcs) row.callee
-    (in_flat (λ (r : CtxArc). r.caller ∷ (r.callee ∷ [])) rows.arcs row row.callee (in_at rows.arcs k d less)
-    (inr (inl refl))))
-
--- the same of rows that are read from a field
-pub lines_among : (cs : List Context) (rows : CtxListed) (items : List CtxLine) → cs ≡ contexts_in rows
-    → items ≡ rows.lines → All (λ (row : CtxLine). Contains cs row.ctx) items
-lines_among cs rows items is lined =
-    subst (λ (ds : List Context). All (λ (row : CtxLine). Contains ds row.ctx) items) (sym is)
-    (subst (λ (rs : List CtxLine). All (λ (row : CtxLine). Contains (contexts_in rows) row.ctx) rs) (sym lined)
-    (lines_there rows))
-
-pub callers_among : (cs : List Context) (rows : CtxListed) (items : List CtxArc) → cs ≡ contexts_in rows
-    → items ≡ rows.arcs → All (λ (row : CtxArc). Contains cs row.caller) items
-callers_among cs rows items is arced =
-    subst (λ (ds : List Context). All (λ (row : CtxArc). Contains ds row.caller) items) (sym is)
-    (subst (λ (rs : List CtxArc). All (λ (row : CtxArc). Contains (contexts_in rows) row.caller) rs) (sym arced)
-    (callers_there rows))
-
-pub callees_among : (cs : List Context) (rows : CtxListed) (items : List CtxArc) → cs ≡ contexts_in rows
-    → items ≡ rows.arcs → All (λ (row : CtxArc). Contains cs row.callee) items
-callees_among cs rows items is arced =
-    subst (λ (ds : List Context). All (λ (row : CtxArc). Contains ds row.callee) items) (sym is)
-    (subst (λ (rs : List CtxArc). All (λ (row : CtxArc). Contains (contexts_in rows) row.callee) rs) (sym arced)
-    (callees_there rows))
+callees_there rows k d less = ends_there rows k d (get_or rows.arcs k d).callee less (inr (inl refl))

@@ -2,9 +2,11 @@
 use Rattle.std.proofs.Common.{◌≡◌, ℕ, zero, suc, ◌+◌, ◌<◌, ◌≤◌, List, [], ◌∷◌, ◌++◌}
 use Rattle.std.proofs.Common.{Option, None, Some, drop, length, slice_get}
 use Rattle.std.proofs.Common.{refl, ap, subst, arith, map, take, if◌then◌else◌, Bool, true, false}
-use Rattle.std.specs.List.{All, AllZip}
+use Rattle.std.specs.List.{AllZip}
 use Rattle.std.specs.Prelude.{slice_index_or}
 use Rattle.std.proofs.lemmas.List.{length-append}
+use Rattle.std.proofs.lemmas.List.Elements.{All-cons}
+use Rattle.std.proofs.lemmas.Option.{get_or_from_slice_get, slice_get_within}
 use Rattle.event_costs.specs.declared.event.Event.{Event}
 use Rattle.sym_map.specs.SymbolMap.{SymbolMap}
 use Rattle.shadow_stack.specs.Changes.{change, drop_count}
@@ -24,9 +26,7 @@ still_there (y ∷ xs) ys zero x is = is
 still_there (y ∷ xs) ys (suc k) x is = still_there xs ys k x is
 
 pub within_list : {X : Type 0} (xs : List X) (k : ℕ) (x : X) → slice_get xs k ≡ Some x → k < length xs
-within_list [] k x is = absurd (cc)
-within_list (y ∷ xs) zero x is = omega arith
-within_list (y ∷ xs) (suc k) x is = let r = within_list xs k x is in omega (arith, r)
+within_list xs k x is = slice_get_within xs k x is
 
 pub with_context_there : (cs : List Context) (c : Context) (k : ℕ) (d : Context) → slice_get cs k ≡ Some d
     → slice_get (with_context cs c) k ≡ Some d
@@ -95,13 +95,7 @@ cut_again n f xs =
 
 -- what stands in a list is what is read there
 pub read_there : (cs : List Context) (k : ℕ) (c : Context) → slice_get cs k ≡ Some c → slice_index_or cs k [] ≡ c
-read_there [] k c is = absurd (cc)
-read_there (d ∷ cs) zero c is = cc
-read_there (d ∷ cs) (suc k) c is = read_there cs k c is
-
-All-cons : {X : Type 0} (P : X → Type 0) (x : X) (xs : List X) → P x → All P xs → All P (x ∷ xs)
-All-cons P x xs here all zero d h = here
-All-cons P x xs here all (suc k) d h = all k d (omega arith)
+read_there cs k c is = get_or_from_slice_get cs k c [] is
 
 -- the starts
 pub starts_with : (total : List ℕ) (o : Option Activation) (fs : List Frame) → StartWithin total fs

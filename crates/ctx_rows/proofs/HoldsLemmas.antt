@@ -34,7 +34,8 @@ use Rattle.ctx_rows.proofs.BoundLemmas.{can_count, within_begun, within_seen}
 use Rattle.ctx_rows.proofs.FrameLemmas.{numbered_length}
 use Rattle.ctx_rows.proofs.StackLemmas.{entered_after, entered_root, few_roots}
 use Rattle.ctx_rows.proofs.TrackLemmas.{knows_append, knows_with, track_append, track_new, track_other, track_with}
-use Rattle.ctx_rows.proofs.TrackedLemmas.{IsTracked, tracked_begun, tracked_cut, tracked_seen, tracked_with}
+use Rattle.ctx_rows.proofs.TrackedLemmas.{IsTracked, all_append, tracked_begun, tracked_cut, tracked_seen}
+use Rattle.ctx_rows.proofs.TrackedLemmas.{tracked_with}
 use Rattle.std.proofs.lemmas.Bool.{or_right}
 use Rattle.recorder.proofs.ThreadBounds.{within_later}
 
@@ -84,11 +85,6 @@ pub record HasTrack (syms : SymbolMap) (callers : ℕ) (cs : List Context) (past
   pub tracked : IsTracked callers cs syms events t
   pub stand : AllByRecursion (StandsOn syms) events
   pub reached : AllByRecursion (IsReached syms) events
-
-all_more : {X : Type 0} (P : X → Type 0) (xs : List X) (x : X) → AllByRecursion P xs → P x
-    → AllByRecursion P (xs ++ x ∷ [])
-all_more P [] x all here = (here, tt)
-all_more P (y ∷ ys) x all here = (all.0, all_more P ys x all.1 here)
 
 module _ (syms : SymbolMap) (callers : ℕ) (cs : List Context) (past : List Step) (events : List EventOnStack)
     (ready_at : Option ℕ) (thread : ℕ) (t : Track) (has : HasTrack syms callers cs past events ready_at thread t) where
@@ -267,9 +263,9 @@ module _ (syms : SymbolMap) (callers : ℕ) (cs : List Context) (past : List Ste
           (track_after_event callers cs syms e x.on_stack.cost t))
           on_stack
           (tracked_seen callers cs syms events e x.on_stack.cost t has.tracked live stands_now.0 orderly.whole);
-      stand = all_more (StandsOn syms) events x.on_stack has.stand stands_on;
-      reached = all_more (IsReached syms) events x.on_stack has.reached
-          (record { events = events_of_thread thread past; first = e.done.pc; is = sym seen_is });
+      stand = all_append (StandsOn syms) events (x.on_stack ∷ []) has.stand (stands_on, tt);
+      reached = all_append (IsReached syms) events (x.on_stack ∷ []) has.reached
+          (record { events = events_of_thread thread past; first = e.done.pc; is = sym seen_is }, tt);
     }
       where
         never : steps_of_thread thread past ++ x ∷ [] ≡ [] → ⊥

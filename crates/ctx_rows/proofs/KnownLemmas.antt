@@ -1,9 +1,10 @@
 -- The contexts of rows that are known have functions of the map, and the numbered rows are those of the
 -- map of contexts.
-use Rattle.std.proofs.Common.{inl, inr, ◌<◌, List, [], ◌∷◌, All, Contains, flat_map, get_or, length, map}
+use Rattle.std.proofs.Common.{inl, inr, List, [], ◌∷◌, All, Contains, flat_map, get_or, map}
 use Rattle.std.proofs.Common.{sym, subst, arith}
 use Rattle.std.specs.Cmp.Lexicographic.{nat_list_cmp_total}
-use Rattle.std.proofs.lemmas.List.{get_or-map, length-map}
+use Rattle.std.proofs.lemmas.List.{length-map}
+use Rattle.std.proofs.lemmas.List.Elements.{All-map}
 use Rattle.sym_map.specs.SymbolMap.{IsFunc, SymbolMap}
 use Rattle.recorder.specs.Laws.{IsIn}
 use Rattle.cg_format.specs.Part as part
@@ -63,33 +64,16 @@ module _ (m : SymbolMap) (rows : CtxListed) (known : AreKnown m rows) where
       subst (IsFunc (context_map m (contexts_in rows))) (sym is) (omega (arith, all, has.1))
 
   pub numbered_known : part.AreKnown (context_map m (contexts_in rows)) (numbered (contexts_in rows) rows)
-  numbered_known = record { lines = lines; arcs = arcs }
-    where
-      lines : All (part.IsKnownLine (context_map m (contexts_in rows)))
-          (map (numbered_line (contexts_in rows)) rows.lines)
-      lines k d less =
-          let size = length-map rows.lines (numbered_line (contexts_in rows)) in
-          let inside : k < length rows.lines = omega (arith, size, less) in
-          let other : CtxLine = record { ctx = []; file = d.place.file; line = 0; cost = [] } in
-          let row = get_or rows.lines k other in
-          subst (part.IsKnownLine (context_map m (contexts_in rows)))
-          (sym (get_or-map (numbered_line (contexts_in rows)) rows.lines k other d inside))
-          (record {
-            function = within row.ctx (lines_there rows k other inside);
-            file = (known.lines k other inside).file;
-          })
-
-      arcs : All (part.IsKnownArc (context_map m (contexts_in rows))) (map (numbered_arc (contexts_in rows)) rows.arcs)
-      arcs k d less =
-          let size = length-map rows.arcs (numbered_arc (contexts_in rows)) in
-          let inside : k < length rows.arcs = omega (arith, size, less) in
-          let other : CtxArc
-          = record { caller = []; callee = []; file = d.arc.file; line = 0; calls = 0; cost = [] } in
-          let row = get_or rows.arcs k other in
-          subst (part.IsKnownArc (context_map m (contexts_in rows)))
-          (sym (get_or-map (numbered_arc (contexts_in rows)) rows.arcs k other d inside))
-          (record {
-            caller = within row.caller (callers_there rows k other inside);
-            file = (known.arcs k other inside).file;
-            callee = within row.callee (callees_there rows k other inside);
-          })
+  numbered_known = record {
+    lines = All-map (part.IsKnownLine (context_map m (contexts_in rows))) (numbered_line (contexts_in rows)) rows.lines
+        (λ k row less. record {
+          function = within (get_or rows.lines k row).ctx (lines_there rows k row less);
+          file = (known.lines k row less).file;
+        });
+    arcs = All-map (part.IsKnownArc (context_map m (contexts_in rows))) (numbered_arc (contexts_in rows)) rows.arcs
+        (λ k row less. record {
+          caller = within (get_or rows.arcs k row).caller (callers_there rows k row less);
+          file = (known.arcs k row less).file;
+          callee = within (get_or rows.arcs k row).callee (callees_there rows k row less);
+        });
+  }

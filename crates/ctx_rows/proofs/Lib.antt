@@ -3,7 +3,6 @@ mod SearchLemmas
 pub mod RankLemmas
 pub mod AmongLemmas
 pub mod MapLemmas
-mod MappedLemmas
 pub mod FoldLemmas
 pub mod NumberLemmas
 pub mod OrderLemmas

@@ -1,71 +1,61 @@
 -- Contexts that stand for functions, and their names.
 use Rattle.std.proofs.Common.{◌≡◌, ◌⊎◌, inl, inr, ℕ, zero, suc, ◌+◌, ◌<◌, List, [], ◌∷◌}
-use Rattle.std.proofs.Common.{◌++◌, Option, Some, append_assoc, get_or, length, map}
-use Rattle.std.proofs.Common.{slice_get, take, refl, sym, ap, subst, ◌∙◌, arith}
+use Rattle.std.proofs.Common.{◌++◌, Option, append_assoc, get_or, length, map}
+use Rattle.std.proofs.Common.{take, refl, sym, ap, subst, ◌∙◌, arith}
 use Rattle.std.specs.Prelude.{codes}
-use Rattle.std.specs.Option.{option_map_or}
-use Rattle.std.proofs.lemmas.List.{length-map}
+use Rattle.std.specs.Option.{option_map, option_map_or}
+use Rattle.std.proofs.lemmas.List.{get_or-map, length-map, take_more}
+use Rattle.std.proofs.lemmas.Option.{slice_get-get_or, slice_get-map}
 use Rattle.event_costs.specs.declared.numbers.FuncId.{FuncId}
 use Rattle.sym_map.specs.SymbolMap.{IsFunc, SymbolMap, entry_line_of, entry_of, home_of, identity_in}
 use Rattle.sym_map.specs.SymbolMap.{identity_of, place_of}
 use Rattle.ctx_rows.specs.Contexts.{Context}
 use Rattle.ctx_rows.specs.Folding.{function_of}
-use Rattle.ctx_rows.specs.Known.{IsKnownContext}
 use Rattle.ctx_rows.specs.Texts.{FunctionIn, as_function, context_map, context_name}
 use Rattle.ctx_rows.specs.inner.Named.{AreNamed}
 
-got_map : {X Y : Type 0} (f : X → Y) (xs : List X) (k : ℕ) (d : X) → k < length xs
-    → slice_get (map f xs) k ≡ Some (f (get_or xs k d))
-got_map f [] k d less = absurd (omega (arith, less))
-got_map f (x ∷ xs) zero d less = refl
-got_map f (x ∷ xs) (suc k) d less = got_map f xs k d (omega (arith, less))
-
-read_map : {X Y : Type 0} (f : X → Y) (xs : List X) (k : ℕ) (d : X) (e : Y) → k < length xs
-    → get_or (map f xs) k e ≡ f (get_or xs k d)
-read_map f [] k d e less = absurd (omega (arith, less))
-read_map f (x ∷ xs) zero d e less = refl
-read_map f (x ∷ xs) (suc k) d e less = read_map f xs k d e (omega (arith, less))
-
-module _ (m : SymbolMap) (cs : List Context) (w : SymbolMap) (view : context_map m cs ≡ w) (func : FuncId) where
-  pub within_contexts : IsFunc w func → func.0 < length cs
-  within_contexts is =
-      let now = subst (λ (v : SymbolMap). IsFunc v func) (sym view) is in
+-- A function of the map of contexts, by its number.
+module _ (m : SymbolMap) (cs : List Context) (w : SymbolMap) (view : context_map m cs ≡ w) (func given : FuncId)
+    (same : func ≡ given) (is : IsFunc w given) where
+  pub within_contexts : func.0 < length cs
+  within_contexts =
+      let now = subst (λ (v : SymbolMap). IsFunc v func) (sym view) (subst (λ (f : FuncId). IsFunc w f) (sym same) is) in
       let all = length-map cs (as_function m) in
       omega (arith, now, all)
 
-  module _ (d : Context) (less : func.0 < length cs) where
-    pub home_there : home_of m (function_of (get_or cs func.0 d)) ≡ home_of w func
+  module _ (d : Context) where
+    pub home_there : home_of m (function_of (get_or cs func.0 d)) ≡ home_of w given
     home_there =
         sym (ap (λ (o : Option (FunctionIn m)). option_map_or (λ (f : FunctionIn m). f.home) o m.unknown.file)
-        (got_map (as_function m) cs func.0 d less))
-        ∙ ap (λ (v : SymbolMap). home_of v func) view
+        (slice_get-map (as_function m) cs func.0
+        ∙ ap (option_map (as_function m)) (slice_get-get_or cs func.0 d within_contexts)))
+        ∙ (λ i. home_of (view i) (same i))
 
-    pub name_there : context_name m (get_or cs func.0 d) ≡ (identity_of w func).name
+    name_there : context_name m (get_or cs func.0 d) ≡ (identity_of w given).name
     name_there =
         let all = length-map cs (as_function m) in
-        sym (ap (λ (f : FunctionIn m). f.name) (read_map (as_function m) cs func.0 d (as_function m d) less))
-        ∙ ap (λ i. i.name) (sym (read_map (identity_in m.files) (map (as_function m) cs) func.0 (as_function m d) _
-        (omega (arith, all, less))))
-        ∙ ap (λ (v : SymbolMap). (identity_of v func).name) view
+        sym (ap (λ (f : FunctionIn m). f.name)
+        (get_or-map (as_function m) cs func.0 d (as_function m d) within_contexts))
+        ∙ ap (λ i. i.name) (sym (get_or-map (identity_in m.files) (map (as_function m) cs) func.0 (as_function m d) _
+        (omega (arith, all, within_contexts))))
+        ∙ (λ i. (identity_of (view i) (same i)).name)
 
-    pub entry_there : entry_line_of m (function_of (get_or cs func.0 d)) ≡ entry_line_of w func
+    pub entry_there : entry_line_of m (function_of (get_or cs func.0 d)) ≡ entry_line_of w given
     unfolding place_of
     entry_there =
         sym (ap (λ (o : Option ℕ). option_map_or (λ entry. (place_of m entry).line) o 0)
-        (read_map (λ (c : Context). entry_of m (function_of c)) cs func.0 d _ less))
-        ∙ ap (λ (v : SymbolMap). entry_line_of v func) view
+        (get_or-map (λ (c : Context). entry_of m (function_of c)) cs func.0 d _ within_contexts))
+        ∙ (λ i. entry_line_of (view i) (same i))
 
-    pub name_is : (names : List (List ℕ)) (text : List ℕ) → AreNamed m cs names → text ≡ get_or names func.0 text
-        → text ≡ (identity_of w func).name
-    name_is names text named is =
-        is ∙ ap (λ (ns : List (List ℕ)). get_or ns func.0 text) named.names_are
-        ∙ read_map (context_name m) cs func.0 d text less ∙ name_there
+    module _ (names : List (List ℕ)) (named : AreNamed m cs names) where
+      pub name_is : (text : List ℕ) → text ≡ get_or names func.0 text → text ≡ (identity_of w given).name
+      name_is text at =
+          at ∙ ap (λ (ns : List (List ℕ)). get_or ns func.0 text) named.names_are
+          ∙ get_or-map (context_name m) cs func.0 d text within_contexts ∙ name_there
 
-    pub known_there : (names : List (List ℕ)) → AreNamed m cs names → IsKnownContext m (get_or cs func.0 d)
-    known_there names named = named.known func.0 d less
-
-pub first_known : (m : SymbolMap) (c : Context) → IsKnownContext m c → IsFunc m (function_of c)
-first_known m c known = known.1 0 0 known.0
+      -- the function that it has its file and entry from
+      pub first_there : IsFunc m (function_of (get_or cs func.0 d))
+      first_there = let known = named.known func.0 d within_contexts in known.1 0 0 known.0
 
 -- ---- names
 
@@ -79,16 +69,6 @@ name_more m (y ∷ xs) x f =
     ap (λ (t : List ℕ). (name_of m x ++ codes "'") ++ t) (name_more m xs y f)
     ∙ sym (append_assoc (name_of m x ++ codes "'") (context_name m (y ∷ xs)) (codes "'" ++ name_of m f))
 
-taken_more : (c : Context) (k : ℕ) → k < length c → take (k + 1) c ≡ take k c ++ get_or c k 0 ∷ []
-taken_more c k less =
-    let more : suc k ≡ k + 1 = omega arith in
-    subst (λ n. take n c ≡ take k c ++ get_or c k 0 ∷ []) more (by c k less)
-  where
-    by : (xs : Context) (n : ℕ) → n < length xs → take (suc n) xs ≡ take n xs ++ get_or xs n 0 ∷ []
-    by [] n less_ = absurd (omega (arith, less_))
-    by (x ∷ xs) zero less_ = refl
-    by (x ∷ xs) (suc n) less_ = ap (λ ys. x ∷ ys) (by xs n (omega (arith, less_)))
-
 -- a name with one function more
 pub named_first : (m : SymbolMap) (c : Context) → 0 < length c → context_name m (take 1 c) ≡ name_of m (get_or c 0 0)
 named_first m [] some = absurd (omega (arith, some))
@@ -99,7 +79,7 @@ pub named_next : (m : SymbolMap) (c : Context) (k : ℕ) → 0 < k → k < lengt
 named_next m c zero some less = absurd (omega (arith, some))
 named_next m [] (suc k) some less = absurd (omega (arith, less))
 named_next m (x ∷ c) (suc k) some less =
-    ap (context_name m) (taken_more (x ∷ c) (suc k) less) ∙ name_more m (take k c) x (get_or (x ∷ c) (suc k) 0)
+    ap (context_name m) (take_more (x ∷ c) (suc k) 0 less) ∙ name_more m (take k c) x (get_or (x ∷ c) (suc k) 0)
 
 -- ---- the loop over a context's functions
 

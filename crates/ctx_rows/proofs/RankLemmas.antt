@@ -1,6 +1,6 @@
 -- Contexts numbered by their order.
 use Rattle.std.proofs.Common.{◌≡◌, ◌↔◌, ℕ, zero, suc, ◌<◌, Bool, true, false, List, [], ◌∷◌, Contains, get_or, length}
-use Rattle.std.proofs.Common.{refl, ap, sym, subst, ◌∙◌, arith, if◌then◌else◌}
+use Rattle.std.proofs.Common.{refl, ap, sym, subst, ◌∙◌, arith, if◌then◌else◌, inl, inr}
 use Rattle.std.specs.Cmp.{tied_itself}
 use Rattle.std.specs.Cmp.Lexicographic.{nat_list_cmp_total}
 use Rattle.std.specs.List.Sorted.{IsStrictlySortedBy}
@@ -49,6 +49,19 @@ rising_number cs c i sorted less is =
     λ j. record {
       0 = rising_place cs c i (rise.rises_from context_order nat_list_cmp_total context_only cs sorted) less is j;
     }
+
+-- the number of a context that isn't there is the next one
+no_place : (cs : List Context) (c : Context) → (IsIn cs c → ⊥) → place cs c ≡ length cs
+no_place [] c none = refl
+no_place (d ∷ cs) c none =
+    place-cons d cs c ∙ by (same_context c d) refl (no_place cs c (λ there. none (inr there)))
+  where
+    by : (b : Bool) → same_context c d ≡ b → place cs c ≡ length cs → (if b then 0 else suc (place cs c)) ≡ suc (length cs)
+    by true is rest = absurd (none (inl (sym (context_alike c d is))))
+    by false is rest = ap suc rest
+
+pub no_number : (cs : List Context) (c : Context) → (IsIn cs c → ⊥) → number cs c ≡ record { 0 = length cs }
+no_number cs c none = λ i. record { 0 = no_place cs c none i }
 
 -- contexts that rise and are those of a list are the rising contexts of that list
 pub one_rising : (cs all : List Context) → IsStrictlySortedBy context_order cs

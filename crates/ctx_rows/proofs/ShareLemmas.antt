@@ -33,49 +33,40 @@ use Rattle.ctx_rows.specs.Folding.{AreSumsOf}
 
 -- ---- sums
 
-sums_same : {X : Type 0} (f g : X → ℕ) (xs : List X) → ((x : X) → IsIn xs x → f x ≡ g x) → sum_by f xs ≡ sum_by g xs
+pub sums_same : {X : Type 0} (f g : X → ℕ) (xs : List X) → ((x : X) → IsIn xs x → f x ≡ g x)
+    → sum_by f xs ≡ sum_by g xs
 sums_same f g [] same = refl
 sums_same f g (x ∷ xs) same =
-    let left = sum_by-cons f x xs in
-    let right = sum_by-cons g x xs in
-    let here = same x (inl refl) in
-    let rest = sums_same f g xs (λ y there. same y (inr there)) in
-    omega (arith, left, right, here, rest)
+    omega (
+      arith,
+      sum_by-cons f x xs,
+      sum_by-cons g x xs,
+      same x (inl refl),
+      sums_same f g xs (λ y there. same y (inr there)),
+    )
 
 sums_zero : {X : Type 0} (f : X → ℕ) (xs : List X) → ((x : X) → IsIn xs x → f x ≡ 0) → sum_by f xs ≡ 0
 sums_zero f [] none = refl
 sums_zero f (x ∷ xs) none =
-    let all = sum_by-cons f x xs in
-    let here = none x (inl refl) in
-    let rest = sums_zero f xs (λ y there. none y (inr there)) in
-    omega (arith, all, here, rest)
+    omega (arith, sum_by-cons f x xs, none x (inl refl), sums_zero f xs (λ y there. none y (inr there)))
 
 sums_plus : {X : Type 0} (f g h : X → ℕ) (xs : List X) → ((x : X) → f x ≡ g x + h x)
     → sum_by f xs ≡ sum_by g xs + sum_by h xs
 sums_plus f g h [] parts = omega arith
 sums_plus f g h (x ∷ xs) parts =
-    let all = sum_by-cons f x xs in
-    let left = sum_by-cons g x xs in
-    let right = sum_by-cons h x xs in
-    let rest = sums_plus f g h xs parts in
-    omega (arith, all, left, right, rest, parts x)
+    omega (arith, sum_by-cons f x xs, sum_by-cons g x xs, sum_by-cons h x xs, sums_plus f g h xs parts, parts x)
 
 sums_times : {X : Type 0} (f g : X → ℕ) (n : ℕ) (xs : List X) → ((x : X) → f x ≡ n * g x)
     → sum_by f xs ≡ n * sum_by g xs
 sums_times f g n [] parts = omega arith
 sums_times f g n (x ∷ xs) parts =
-    let all = sum_by-cons f x xs in
-    let rest = sums_times f g n xs parts in
     let spread = ap (λ m. n * m) (sum_by-cons g x xs) ∙ mul-add n (g x) (sum_by g xs) in
-    omega (arith, all, rest, parts x, spread)
+    omega (arith, sum_by-cons f x xs, sums_times f g n xs parts, parts x, spread)
 
 pub sums_map : {X Y : Type 0} (f : Y → ℕ) (g : X → Y) (xs : List X) → sum_by f (map g xs) ≡ sum_by (λ x. f (g x)) xs
 sums_map f g [] = refl
 sums_map f g (x ∷ xs) =
-    let left = sum_by-cons f (g x) (map g xs) in
-    let right = sum_by-cons (λ y. f (g y)) x xs in
-    let rest = sums_map f g xs in
-    omega (arith, left, right, rest)
+    omega (arith, sum_by-cons f (g x) (map g xs), sum_by-cons (λ y. f (g y)) x xs, sums_map f g xs)
 
 sums_filter : {X : Type 0} (f : X → ℕ) (some : X → Bool) (xs : List X) → ((x : X) → some x ≡ false → f x ≡ 0)
     → sum_by f (filter some xs) ≡ sum_by f xs
@@ -84,14 +75,8 @@ sums_filter f some (x ∷ xs) none = by (some x) refl (sums_filter f some xs non
   where
     by : (b : Bool) → some x ≡ b → sum_by f (filter some xs) ≡ sum_by f xs
         → sum_by f (if b then x ∷ filter some xs else filter some xs) ≡ sum_by f (x ∷ xs)
-    by true is rest =
-        let left = sum_by-cons f x (filter some xs) in
-        let right = sum_by-cons f x xs in
-        omega (arith, left, right, rest)
-    by false is rest =
-        let right = sum_by-cons f x xs in
-        let here = none x is in
-        omega (arith, right, here, rest)
+    by true is rest = omega (arith, sum_by-cons f x (filter some xs), sum_by-cons f x xs, rest)
+    by false is rest = omega (arith, sum_by-cons f x xs, none x is, rest)
 
 if_zero : (b : Bool) → ◌≡◌ {A = ℕ} (if b then 0 else 0) 0
 if_zero true = refl

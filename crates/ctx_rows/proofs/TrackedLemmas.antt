@@ -20,7 +20,7 @@ use Rattle.shadow_stack.specs.declared.frame.Kind.TheVariants.{Root}
 use Rattle.ctx_rows.proofs.Others.{StartWithin-drop, StartWithin-restarted, StartWithin-tail, number_of_sum}
 use Rattle.ctx_rows.proofs.Others.{sum_at_none, zero_replicate, StartWithin-take, starts_grown, whole_sum, IsPushed}
 use Rattle.ctx_rows.proofs.Others.{pushes_what, arc_alike, place_alike}
-use Rattle.arc_costs.specs.Arcs.{add_arcs, cleared_arcs, plus_arc}
+use Rattle.arc_costs.specs.Arcs.{add_arcs, cleared_arcs, cost_of_arc, plus_arc}
 use Rattle.arc_costs.specs.Arcs as arcs
 use Rattle.arc_costs.specs.Lines.{add_line, cleared_lines, line, plus_line}
 use Rattle.arc_costs.specs.Lines as lines
@@ -460,29 +460,11 @@ tracked_begun callers cs syms thread pc = record {
 
 -- ---- a cut
 
-cleared_whole_lines : (rs : List LineRow) → AllByRecursion (λ (r : LineRow). IsWhole r.cost) (cleared_lines rs)
-cleared_whole_lines [] = tt
-cleared_whole_lines (r ∷ rs) = (refl, cleared_whole_lines rs)
-
-cleared_whole_arcs : (rs : List ArcRow) → AllByRecursion (λ (r : ArcRow). IsWhole r.cost) (cleared_arcs rs)
-cleared_whole_arcs [] = tt
-cleared_whole_arcs (r ∷ rs) = (refl, cleared_whole_arcs rs)
-
-cleared_line_numbers : (count : ℕ) (rs : List LineRow)
-    → AllByRecursion (λ (r : LineRow). IsNumber count r.place.func) rs
-    → AllByRecursion (λ (r : LineRow). IsNumber count r.place.func) (cleared_lines rs)
-cleared_line_numbers count [] all = tt
-cleared_line_numbers count (r ∷ rs) all = (all.0, cleared_line_numbers count rs all.1)
-
-cleared_arc_numbers : (count : ℕ) (rs : List ArcRow) → AllByRecursion (λ (r : ArcRow). IsArcOf count r.arc) rs
-    → AllByRecursion (λ (r : ArcRow). IsArcOf count r.arc) (cleared_arcs rs)
-cleared_arc_numbers count [] all = tt
-cleared_arc_numbers count (r ∷ rs) all = (all.0, cleared_arc_numbers count rs all.1)
-
-restarted_entered : (count : ℕ) (total : List ℕ) (fs : List Frame) → AllByRecursion (IsEnteredOf count) fs
-    → AllByRecursion (IsEnteredOf count) (restarted_frames total fs)
-restarted_entered count total [] all = tt
-restarted_entered count total (f ∷ fs) all = (all.0, restarted_entered count total fs all.1)
+-- what holds of each by what held of what it is made of
+each : {X Y : Type 0} (P : X → Type 0) (Q : Y → Type 0) (f : X → Y) → ((x : X) → P x → Q (f x)) → (xs : List X)
+    → AllByRecursion P xs → AllByRecursion Q (map f xs)
+each P Q f has [] all = tt
+each P Q f has (x ∷ xs) all = (has x all.0, each P Q f has xs all.1)
 
 restarted_froms : (cs : List Context) (total : List ℕ) (fs : List Frame)
     → map (from_of cs) (restarted_frames total fs) ≡ map (from_of cs) fs
@@ -527,11 +509,17 @@ pub tracked_cut : (callers : ℕ) (cs : List Context) (syms : SymbolMap) (since 
 tracked_cut callers cs syms since t old = record {
   whole = old.whole;
   starts = StartWithin-restarted t.total t.frames;
-  whole_lines = cleared_whole_lines t.lines;
-  whole_arcs = cleared_whole_arcs t.arcs;
-  line_numbers = cleared_line_numbers (length cs) t.lines old.line_numbers;
-  arc_numbers = cleared_arc_numbers (length cs) t.arcs old.arc_numbers;
-  frame_numbers = restarted_entered (length cs) t.total t.frames old.frame_numbers;
+  whole_lines = each (λ (r : LineRow). IsWhole r.cost) (λ (r : LineRow). IsWhole r.cost)
+      (λ (r : LineRow). line r.place no_cost) (λ r is. refl) t.lines old.whole_lines;
+  whole_arcs = each (λ (r : ArcRow). IsWhole r.cost) (λ (r : ArcRow). IsWhole r.cost)
+      (λ (r : ArcRow). cost_of_arc r.arc no_cost) (λ r is. refl) t.arcs old.whole_arcs;
+  line_numbers = each (λ (r : LineRow). IsNumber (length cs) r.place.func)
+      (λ (r : LineRow). IsNumber (length cs) r.place.func) (λ (r : LineRow). line r.place no_cost) (λ r is. is)
+      t.lines old.line_numbers;
+  arc_numbers = each (λ (r : ArcRow). IsArcOf (length cs) r.arc) (λ (r : ArcRow). IsArcOf (length cs) r.arc)
+      (λ (r : ArcRow). cost_of_arc r.arc no_cost) (λ r is. is) t.arcs old.arc_numbers;
+  frame_numbers = each (IsEnteredOf (length cs)) (IsEnteredOf (length cs))
+      (λ (f : Frame). record f { start = t.total }) (λ f is. is) t.frames old.frame_numbers;
   numbered = numbered_restarted callers cs t.total t.frames t.stack old.numbered;
   arced = restarted_froms cs t.total t.frames ∙ old.arced;
   lines = λ kind p. cleared_line_sum cs kind p t.lines;

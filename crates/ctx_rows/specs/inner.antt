@@ -1,4 +1,3 @@
 -- Words of private contracts. No public clause rests on them.
 pub mod Named
-pub mod Ranks
 pub mod Ties

@@ -1,16 +1,17 @@
 //! Rows by the numbers that contexts have elsewhere, numbered anew by the order of their contexts.
 
-ghost use Rattle.std.specs.Prelude.{◌≡◌, All, Contains, IfOk, OnOk, map};
+ghost use Rattle.std.specs.Prelude.{◌≡◌, IfOk, OnOk, map};
 ghost use Rattle.std.specs.List.Sorted.{IsStrictlySortedBy};
-ghost use Rattle.ctx_rows.specs.Contexts.{context_at, context_order};
+ghost use Rattle.arc_costs.specs.Keys.{risen};
+ghost use Rattle.ctx_rows.specs.Contexts.{context_at, context_order, number};
 ghost use Rattle.ctx_rows.specs.Telling.{named_arc, named_line, named_rows};
 ghost use Rattle.ctx_rows.specs.Texts.{all_contexts, contexts_in, numbered, numbered_arc, numbered_line};
 
 use crate::context_ref::{ContextRef, context_at};
-use crate::numbering::{in_order, number};
 use arc_costs::{ArcRow, LineRow, TableRows};
 use byte_text::OutOfMemory;
 use event_costs::{ArcKey, ContextNo, Place};
+use name_numbers::distinct;
 use std::alloc::Global;
 
 /// The contexts of rows, as often as they come.
@@ -32,14 +33,33 @@ fn all_contexts<'a>(
     Ok(all)
 }
 
+/// Each of these contexts once, in rising order.
+fn in_order<'a>(all: Vec<ContextRef<'a>>) -> Result<Vec<ContextRef<'a>>, OutOfMemory>
+    ensures { IfOk result (λ contexts. contexts.items ≡ risen context_order all.entry.items) }
+{
+    let mut contexts = distinct(all)?;
+    contexts.shrink_to_fit();
+    Ok(contexts)
+}
+
+/// The number of a context among these, or the next one where it isn't there.
+fn number(contexts: &[ContextRef<'_>], context: &ContextRef<'_>) -> ContextNo
+    requires { IsStrictlySortedBy context_order contexts.now }
+    ensures { result ≡ number contexts.now context.now }
+{
+    match contexts.binary_search(context) {
+        Ok(number) => ContextNo(number as u64),
+        Err(_) => ContextNo(contexts.len() as u64),
+    }
+}
+
 /// A line row with the number of its context among these.
 fn ranked_line(
     row: &LineRow<ContextNo>,
     contexts: &[ContextRef<'_>],
     ranked: &[ContextRef<'_>],
 ) -> LineRow<ContextNo>
-    requires rise { IsStrictlySortedBy context_order ranked.now }
-    requires there { Contains ranked.now (context_at contexts.now row.now.place.func) }
+    requires { IsStrictlySortedBy context_order ranked.now }
     ensures { result ≡ numbered_line ranked.now (named_line contexts.now row.now) }
 {
     LineRow {
@@ -58,9 +78,7 @@ fn ranked_arc(
     contexts: &[ContextRef<'_>],
     ranked: &[ContextRef<'_>],
 ) -> ArcRow<ContextNo>
-    requires rise { IsStrictlySortedBy context_order ranked.now }
-    requires caller { Contains ranked.now (context_at contexts.now row.now.arc.caller) }
-    requires callee { Contains ranked.now (context_at contexts.now row.now.arc.callee) }
+    requires { IsStrictlySortedBy context_order ranked.now }
     ensures { result ≡ numbered_arc ranked.now (named_arc contexts.now row.now) }
 {
     ArcRow {
@@ -81,24 +99,21 @@ fn rank_lines(
     contexts: &[ContextRef<'_>],
     ranked: &[ContextRef<'_>],
 )
-    requires rise { IsStrictlySortedBy context_order ranked.now }
-    requires there { All (λ row. Contains ranked.now row.ctx) (map (named_line contexts.now) rows.old) }
+    requires { IsStrictlySortedBy context_order ranked.now }
     ensures { rows.new ≡ map (numbered_line ranked.now) (map (named_line contexts.now) rows.old) }
 {
-    'lines: for place in 0..rows.len() {
-        rows[place] = ranked_line(&rows[place], contexts, ranked);
+    'lines: for row in rows.iter_mut() {
+        *row = ranked_line(row, contexts, ranked);
     }
 }
 
 /// Gives arcs the numbers of their contexts among these.
 fn rank_arcs(rows: &mut [ArcRow<ContextNo>], contexts: &[ContextRef<'_>], ranked: &[ContextRef<'_>])
-    requires rise { IsStrictlySortedBy context_order ranked.now }
-    requires callers { All (λ row. Contains ranked.now row.caller) (map (named_arc contexts.now) rows.old) }
-    requires callees { All (λ row. Contains ranked.now row.callee) (map (named_arc contexts.now) rows.old) }
+    requires { IsStrictlySortedBy context_order ranked.now }
     ensures { rows.new ≡ map (numbered_arc ranked.now) (map (named_arc contexts.now) rows.old) }
 {
-    'arcs: for place in 0..rows.len() {
-        rows[place] = ranked_arc(&rows[place], contexts, ranked);
+    'arcs: for row in rows.iter_mut() {
+        *row = ranked_arc(row, contexts, ranked);
     }
 }
 

@@ -2,13 +2,11 @@
 
 ghost use Rattle.std.specs.Prelude.{◌≡◌, All, IfOk, map};
 ghost use Rattle.ctx_rows.specs.Known.{AreKnown, IsKnownContext};
-ghost use Rattle.ctx_rows.specs.Rows.{CtxListed};
 ghost use Rattle.ctx_rows.specs.Telling.{named_rows};
 ghost use Rattle.ctx_rows.specs.Texts.{context_name, ctx_text};
-ghost use Rattle.ctx_rows.specs.inner.Ranks.{AreRanked};
 
 use crate::context_ref::ContextRef;
-use crate::numbering::{all_lists, contexts_of, in_order, numbered};
+use crate::numbering::{by_number, contexts_of};
 use crate::ranking::rank;
 use crate::rows::CtxRows;
 use arc_costs::TableRows;
@@ -91,27 +89,6 @@ impl<'a> Naming for ContextMap<'a> {
     }
 }
 
-/// Writes rows by the numbers of contexts, which have their order.
-fn write_ranked(
-    alloc: Global,
-    head: &PartHead,
-    rows: &TableRows<ContextNo>,
-    contexts: &[ContextRef<'_>],
-    syms: &SymMap,
-) -> Result<Text, OutOfMemory>
-    requires { (all : CtxListed) × AreRanked syms.now contexts.now rows.now all }
-    ensures { (all : CtxListed) → AreRanked syms.now contexts.now rows.now all
-        → IfOk result (λ text. text ≡ ctx_text head.now all syms.now) }
-{
-    let names = context_names(alloc, syms, contexts)?;
-    let map = ContextMap {
-        syms,
-        contexts,
-        names: &names,
-    };
-    write_named(alloc, head, rows, &map)
-}
-
 /// The text of a part in Callgrind's format, with contexts for functions: the name of a context is that of its
 /// functions, joined by apostrophes, and its file and entry are those of the first one. Each context has an id of its
 /// own, so two may have one name. No context is empty, and each function and file of the rows is one of the map.
@@ -124,10 +101,10 @@ pub fn write_ctx(
     requires { AreKnown syms.now rows.now.rows }
     ensures { IfOk result (λ text. text ≡ ctx_text head.now rows.now.rows syms.now) }
 {
-    let lists = all_lists(alloc, rows)?;
-    let contexts = in_order(contexts_of(alloc, &lists)?)?;
-    let numbered = numbered(alloc, &contexts, rows)?;
-    write_ranked(alloc, head, &numbered, &contexts, syms)
+    let mut lists = Vec::new(alloc);
+    let numbered = by_number(alloc, rows, &mut lists)?;
+    let contexts = contexts_of(alloc, &lists)?;
+    write_by_number(alloc, head, numbered, &contexts, syms)
 }
 
 /// What `write_ctx` writes, of rows by the numbers of these contexts. They get other numbers in their places.
@@ -143,5 +120,11 @@ pub fn write_by_number(
 {
     let mut rows = rows;
     let ranked = rank(alloc, &mut rows, contexts)?;
-    write_ranked(alloc, head, &rows, &ranked, syms)
+    let names = context_names(alloc, syms, &ranked)?;
+    let map = ContextMap {
+        syms,
+        contexts: &ranked,
+        names: &names,
+    };
+    write_named(alloc, head, &rows, &map)
 }

@@ -4,42 +4,20 @@ use Rattle.std.proofs.lemmas.List.{length-map, with_items_is}
 use Rattle.arc_costs.specs.Contents.{Listed}
 use Rattle.arc_costs.specs.Keys.{risen}
 use Rattle.ctx_rows.specs.Contexts.{Context, context_order}
-use Rattle.ctx_rows.specs.Telling.{named_arc, named_line, named_rows}
+use Rattle.ctx_rows.specs.Telling.{named_arc, named_line}
 use Rattle.ctx_rows.specs.Texts.{numbered_arc, numbered_line}
-use Rattle.ctx_rows.proofs.AmongLemmas.{callees_among, callers_among, lines_among}
 use Rattle.ctx_rows.proofs.RankLemmas.{risen_sorted}
 use Rattle.ctx_rows.proofs.ranking.rank.Goals as goal
 
-pub rank_lines-requires-clause-rise : goal.rank_lines-requires-clause-rise
-rank_lines-requires-clause-rise c =
+pub rank_lines-requires : goal.rank_lines-requires
+rank_lines-requires c =
     subst (λ (cs : List Context). IsStrictlySortedBy context_order cs)
     (sym (c.deref.ensures.value ∙ c.in_ok-ranked.ensures)) (risen_sorted c.in_ok-all_contexts.field-0.items)
 
-pub rank_lines-requires-clause-there : goal.rank_lines-requires-clause-there
-rank_lines-requires-clause-there c =
-    let cs = c.args.contexts.now in
-    lines_among c.deref.result.now (named_rows cs c.args.rows.now) (map (named_line cs) c.deref_mut.result.now)
-    (c.deref.ensures.value ∙ c.in_ok-ranked.ensures ∙ ap (risen context_order) c.in_ok-all_contexts.ensures)
-    (ap (map (named_line cs)) (c.deref_mut.ensures.value ∙ ap (λ (l : Listed). l.lines) c.rows.view_is))
-
-pub rank_arcs-requires-clause-rise : goal.rank_arcs-requires-clause-rise
-rank_arcs-requires-clause-rise c =
+pub rank_arcs-requires : goal.rank_arcs-requires
+rank_arcs-requires c =
     subst (λ (cs : List Context). IsStrictlySortedBy context_order cs)
     (sym (c.deref-2.ensures.value ∙ c.in_ok-ranked.ensures)) (risen_sorted c.in_ok-all_contexts.field-0.items)
-
-pub rank_arcs-requires-clause-callers : goal.rank_arcs-requires-clause-callers
-rank_arcs-requires-clause-callers c =
-    let cs = c.args.contexts.now in
-    callers_among c.deref-2.result.now (named_rows cs c.args.rows.now) (map (named_arc cs) c.deref_mut-2.result.now)
-    (c.deref-2.ensures.value ∙ c.in_ok-ranked.ensures ∙ ap (risen context_order) c.in_ok-all_contexts.ensures)
-    (ap (map (named_arc cs)) (c.deref_mut-2.ensures.value ∙ ap (λ (l : Listed). l.arcs) c.rows.view_is))
-
-pub rank_arcs-requires-clause-callees : goal.rank_arcs-requires-clause-callees
-rank_arcs-requires-clause-callees c =
-    let cs = c.args.contexts.now in
-    callees_among c.deref-2.result.now (named_rows cs c.args.rows.now) (map (named_arc cs) c.deref_mut-2.result.now)
-    (c.deref-2.ensures.value ∙ c.in_ok-ranked.ensures ∙ ap (risen context_order) c.in_ok-all_contexts.ensures)
-    (ap (map (named_arc cs)) (c.deref_mut-2.ensures.value ∙ ap (λ (l : Listed). l.arcs) c.rows.view_is))
 
 pub returns-clause-rows : goal.returns-clause-rows
 returns-clause-rows c =
@@ -50,19 +28,15 @@ returns-clause-rows c =
     let line_size : length c.rank_lines.new.rows ≡ c.rows.inside.lines.len
     = omega (
       arith,
-      ap length c.rank_lines.ensures,
+      simp length-map at (ap length c.rank_lines.ensures),
       ap length c.deref_mut.ensures.value,
-      length-map (map (named_line cs) c.deref_mut.result.now) (numbered_line c.deref.result.now),
-      length-map c.deref_mut.result.now (named_line cs),
       c.rows.inside.lines.ok.0,
     ) in
     let arc_size : length c.rank_arcs.new.rows ≡ c.rows.inside.arcs.len
     = omega (
       arith,
-      ap length c.rank_arcs.ensures,
+      simp length-map at (ap length c.rank_arcs.ensures),
       ap length c.deref_mut-2.ensures.value,
-      length-map (map (named_arc cs) c.deref_mut-2.result.now) (numbered_arc c.deref-2.result.now),
-      length-map c.deref_mut-2.result.now (named_arc cs),
       c.rows.inside.arcs.ok.0,
     ) in
     let lines = c.deref_mut.ensures.value ∙ ap (λ (l : Listed). l.lines) c.rows.view_is in

@@ -1,32 +1,19 @@
-use Rattle.std.proofs.Common.{Contains, arith}
+use Rattle.std.proofs.Common.{◌∙◌, ap, rules, sym}
+use Rattle.std.specs.Prelude.{slice_set}
+use Rattle.std.proofs.lemmas.List.{drop_all, take_all}
+use Rattle.std.proofs.lemmas.List.Edits.{map_over_more}
+use Rattle.std.proofs.lemmas.Simd.{map-map}
+use Rattle.arc_costs.specs.Rows.{ArcRow}
 use Rattle.ctx_rows.specs.Telling.{named_arc}
 use Rattle.ctx_rows.specs.Texts.{numbered_arc}
-use Rattle.ctx_rows.specs.declared.rows.CtxArc.{CtxArc}
-use Rattle.ctx_rows.proofs.MappedLemmas.{at_place, mapped_all, mapped_more, mapped_none}
 use Rattle.ctx_rows.proofs.ranking.rank_arcs.Goals as goal
-
-pub arcs-init : goal.arcs-init
-arcs-init c = mapped_none (named_arc c.args.contexts.now) (numbered_arc c.args.ranked.now) c.args.rows.now
-
-pub ranked_arc-requires-clause-caller : goal.ranked_arc-requires-clause-caller
-ranked_arc-requires-clause-caller c =
-    at_place (named_arc c.args.contexts.now) (numbered_arc c.args.ranked.now) c.args.rows.now
-    (λ (row : CtxArc). Contains c.args.ranked.now row.caller) c.arcs.place c.arcs.rows c.index-rows-place.result
-    c.requires.callers c.arcs.invariant (omega (arith, c.arcs-test.true, c.arcs.invariant.size))
-
-pub ranked_arc-requires-clause-callee : goal.ranked_arc-requires-clause-callee
-ranked_arc-requires-clause-callee c =
-    at_place (named_arc c.args.contexts.now) (numbered_arc c.args.ranked.now) c.args.rows.now
-    (λ (row : CtxArc). Contains c.args.ranked.now row.callee) c.arcs.place c.arcs.rows c.index-rows-place.result
-    c.requires.callees c.arcs.invariant (omega (arith, c.arcs-test.true, c.arcs.invariant.size))
 
 pub arcs-preserved : goal.arcs-preserved
 arcs-preserved c =
-    mapped_more (named_arc c.args.contexts.now) (numbered_arc c.args.ranked.now) c.args.rows.now c.arcs.place
-    c.arcs.rows c.index-rows-place.result c.ranked_arc.result c.arcs.invariant
-    (omega (arith, c.arcs-test.true, c.arcs.invariant.size)) c.ranked_arc.ensures
+    let f : ArcRow → ArcRow = λ row. numbered_arc c.args.ranked.now (named_arc c.args.contexts.now row) in
+    ap (slice_set c.arcs.rows c.arcs.row-index) (c.ranked_arc.ensures ∙ ap f (sym c.row-item.is))
+    ∙ map_over_more f c.args.rows.now c.arcs.rows c.arcs.row-index c.row-item.result c.arcs-test.true c.arcs.invariant
+    c.row-item.is
 
 pub returns : goal.returns
-returns c =
-    mapped_all (named_arc c.args.contexts.now) (numbered_arc c.args.ranked.now) c.args.rows.now c.arcs.place
-    c.arcs.rows c.arcs.invariant (omega (arith, c.arcs-test.false, c.arcs.invariant.size))
+returns c = search (rules, take_all, drop_all, map-map)

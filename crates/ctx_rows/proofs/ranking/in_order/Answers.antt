@@ -1,6 +1,6 @@
 use Rattle.std.proofs.Common.{◌∙◌}
 use Rattle.ctx_rows.proofs.RankLemmas.{one_rising}
-use Rattle.ctx_rows.proofs.numbering.in_order.Goals as goal
+use Rattle.ctx_rows.proofs.ranking.in_order.Goals as goal
 
 pub returns : goal.returns
 returns c =
