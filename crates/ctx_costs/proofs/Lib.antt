@@ -1,13 +1,14 @@
 mod Others
 pub mod TellingLemmas
-pub mod PushLemmas
-pub mod LeaveLemmas
+pub mod NumberedLemmas
+pub mod ClosingLemmas
+pub mod OpeningLemmas
 pub mod SummedLemmas
 pub mod SoundLemmas
 pub mod KeyLemmas
 pub mod FoundLemmas
 pub mod WatchLemmas
-pub mod NoteLemmas
+pub mod ChangedLemmas
 pub mod StepLemmas
 pub mod ReadyLemmas
 pub mod SeenLemmas

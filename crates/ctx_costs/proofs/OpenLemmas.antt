@@ -1,13 +1,8 @@
 -- The rows of a thread, with what its open frames have cost.
-use Rattle.std.proofs.Common.{◌≡◌, ℕ, ◌+◌, ◌≤◌, List, Result, Ok, Err, IfOk, filter, map, reverse, refl, ◌∙◌}
+use Rattle.std.proofs.Common.{◌≡◌, ℕ, ◌+◌, List, Result, Ok, Err, IfOk, filter, map, refl, ◌∙◌}
 use Rattle.std.specs.Prelude.{IsPermutation}
-use Rattle.std.specs.List.{AllZip}
 use Rattle.std.specs.List.Sorted.{IsStrictlySortedBy}
-use Rattle.std.proofs.lemmas.List.Sorted.{All-permutation, IsPermutation-reverse, IsPermutation-sym}
-use Rattle.std.proofs.lemmas.List.Sorted.{sum_by-IsPermutation}
 use Rattle.event_costs.specs.Keys.{ArcKey, Place}
-use Rattle.shadow_stack.specs.Frames.{StartWithin}
-use Rattle.shadow_stack.specs.declared.frame.Frame.{Frame}
 use Rattle.arc_costs.specs.Arcs.{ArcsStandFor, arc_of, arc_sum, call_sum, is_some_arc}
 use Rattle.arc_costs.specs.Contents.{Listed}
 use Rattle.arc_costs.specs.Lines.{LinesStandFor, is_some_line, line_sum, place_of}
@@ -16,22 +11,8 @@ use Rattle.arc_costs.specs.Rows.{ArcRow, LineRow}
 use Rattle.recorder.specs.Accounts.{Account}
 use Rattle.recorder.specs.Notes.{open_sum}
 use Rattle.recorder.specs.Standing.{IsCutOf}
-use Rattle.ctx_costs.proofs.Others.{sorted_some, open_share}
-
--- frames root first
-pub starts_items : (total : List ℕ) (items : List Frame) → StartWithin total (reverse items) → StartWithin total items
-starts_items total items all =
-    All-permutation (λ (f : Frame). AllZip (λ t s. s ≤ t) total f.start) (reverse items) items
-    (IsPermutation-sym items (reverse items) (IsPermutation-reverse items)) all
-
-pub open_items : (kind : ℕ) (total : List ℕ) (arc : ArcKey) (items : List Frame)
-    → open_sum kind total arc (reverse items) ≡ open_sum kind total arc items
-open_items kind total arc items =
-    sum_by-IsPermutation (open_share kind total arc) items (reverse items) (IsPermutation-reverse items)
-
--- rows stand for themselves
-pub own_sums : (rows : List ArcRow) → ArcsStandFor rows rows
-own_sums rows = record { calls = λ arc. refl; costs = λ kind arc. refl }
+use Rattle.ctx_costs.proofs.Others.{sorted_some}
+use Rattle.ctx_costs.proofs.OpeningLemmas.{own_sums}
 
 pub cut_of : {E : Type 0} (r : Result Listed E) (a : Account) (lines : List LineRow) (arcs : List ArcRow)
     → ((kind : ℕ) (place : Place) → line_sum kind place lines ≡ line_sum kind place a.lines)

@@ -13,8 +13,9 @@ pub use Rattle.recorder.proofs.LineLemmas.{place_alike, place_itself, same_numbe
 pub use Rattle.recorder.proofs.ListLemmas.{from_map, in_filter, none_of}
 pub use Rattle.recorder.proofs.RecordingLemmas.{any-map}
 pub use Rattle.recorder.proofs.SumLemmas.{AreKeyed-drop, AreKeyed-take, closings_calls, closings_costs}
-pub use Rattle.recorder.proofs.SumLemmas.{closings_pushes, open_share, open_sum-restarted, open_sum-split}
+pub use Rattle.recorder.proofs.SumLemmas.{closings_pushes, open_sum-restarted, open_sum-split}
 pub use Rattle.recorder.proofs.SumLemmas.{open_sum-with, own_cost, pushing_calls, pushing_costs}
-pub use Rattle.recorder.proofs.TellingLemmas.{at_most_one, none_told, none_used, row_told}
+pub use Rattle.recorder.proofs.TellingLemmas.{at_most_one, more_told, none_told, none_used, row_told}
 pub use Rattle.shadow_stack.proofs.ChainLemmas.{true_of_or}
+pub use Rattle.shadow_stack.proofs.ChangeLemmas.{change-end, end-le}
 pub use Rattle.shadow_stack.proofs.StayLemmas.{none_gone}

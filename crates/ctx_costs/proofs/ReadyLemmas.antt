@@ -7,19 +7,17 @@ use Rattle.std.specs.Prelude.{slice_set}
 use Rattle.std.specs.List.{AllByRecursion, list_any}
 use Rattle.std.proofs.lemmas.Bool.{eq-eqb, or_parts}
 use Rattle.std.proofs.lemmas.List.{map-append}
-use Rattle.event_costs.specs.Costs.{no_cost}
 use Rattle.event_costs.specs.declared.numbers.FuncId.{FuncId}
 use Rattle.event_costs.specs.declared.numbers.ThreadNo.{ThreadNo}
 use Rattle.sym_map.specs.SymbolMap.{SymbolMap, place_of}
-use Rattle.shadow_stack.specs.Frames.{StartWithin}
 use Rattle.shadow_stack.specs.Stacks.{root}
-use Rattle.shadow_stack.specs.declared.frame.Frame.{Frame}
 use Rattle.recorder.specs.Laws.{AreApart, IsIn}
 use Rattle.ctx_costs.proofs.Others.{any-map, number_is, swapped, true_false}
 use Rattle.ctx_rows.specs.Contexts.{Context, context, same_context, has_context, number, with_context, AreDistinct}
 use Rattle.ctx_rows.specs.States.{CtxState, Track, after_ready, first_track, is_track_of, knows, with_started}
 use Rattle.ctx_costs.specs.inner.Keys.{Held}
-use Rattle.ctx_costs.specs.inner.Tracks.{Book, HasBegun, IsKept, IsReadyFor, IsRoomy, IsSound, IsWatching, track_of}
+use Rattle.ctx_costs.specs.inner.Tracks.{Book, HasBegun, IsFramed, IsKept, IsReadyFor, IsRoomy, IsSound, IsWatching}
+use Rattle.ctx_costs.specs.inner.Tracks.{track_of}
 use Rattle.ctx_costs.proofs.SummedLemmas.{begun_summed}
 use Rattle.ctx_costs.proofs.WatchLemmas.{all_more, all_set, all_weaker, kept_more}
 
@@ -212,7 +210,7 @@ module _ (callers : ℕ) (held now : Held) (books : List Book) (ready : Option T
       (room : held.room ≡ 2) (begins : HasBegun thread func books held more now) where
     begun_kept : IsKept callers (with_context held.contexts (func.0 ∷ [])) begins.book
     begun_kept = record {
-      starts = begins.starts;
+      framed = begins.framed;
       sound =
           subst (λ (t : Track). IsSound callers (with_context held.contexts (func.0 ∷ [])) t) (sym begins.track)
           (begun_sound callers held.contexts thread func);
@@ -281,7 +279,7 @@ module _ (callers : ℕ) (held now : Held) (books : List Book) (ready : Option T
   module _ (thread : ThreadNo) (place : ℕ) (new : Book) (less : place < length books)
       (is : (d : Book) → (get_or books place d).thread.0 ≡ thread.0)
       (track : (d : Book) → track_of new ≡ track_of (get_or books place d))
-      (stack : (d : Book) → new.stack.frames ≡ (get_or books place d).stack.frames)
+      (framed : (d : Book) → IsFramed (get_or books place d) → IsFramed new)
       (contexts : now.contexts ≡ held.contexts) (room : now.room ≡ 2) where
     kept_at : (bs : List Book) (k : ℕ) → AllByRecursion (IsKept callers held.contexts) bs → k < length bs
         → IsKept callers held.contexts (get_or bs k new)
@@ -293,7 +291,7 @@ module _ (callers : ℕ) (held now : Held) (books : List Book) (ready : Option T
     new_kept =
         let was = kept_at books place watching.each less in
         record {
-          starts = subst (λ (fs : List Frame). StartWithin no_cost fs) (sym (stack new)) was.starts;
+          framed = framed new was.framed;
           sound = subst (λ (t : Track). IsSound callers held.contexts t) (sym (track new)) was.sound;
         }
 

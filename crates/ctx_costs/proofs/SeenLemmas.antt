@@ -1,19 +1,17 @@
 -- A watch after a step and after a cut.
-use Rattle.std.proofs.Common.{◌≡◌, ℕ, suc, ◌+◌, ◌<◌, ◌≤◌, ◌||◌, Bool, false, true, List, [], ◌∷◌, Option, None}
+use Rattle.std.proofs.Common.{◌≡◌, ℕ, suc, ◌+◌, ◌<◌, ◌||◌, Bool, false, true, List, [], ◌∷◌, Option, None}
 use Rattle.std.proofs.Common.{IfSome, if◌then◌else◌, is_some}
 use Rattle.std.proofs.Common.{Some, get_or, length, map, take, refl, sym, ap, subst, ◌∙◌, arith}
-use Rattle.std.specs.Prelude.{slice_set, vec_capacity}
+use Rattle.std.specs.Prelude.{slice_set}
 use Rattle.std.specs.List.{AllByRecursion}
 use Rattle.std.proofs.lemmas.List.{length-map, length-reverse}
-use Rattle.event_costs.specs.Costs.{no_cost}
 use Rattle.event_costs.specs.declared.event.Event.{Event}
 use Rattle.event_costs.specs.Keys.{Place}
 use Rattle.event_costs.specs.declared.numbers.ThreadNo.{ThreadNo}
 use Rattle.sym_map.specs.SymbolMap.{SymbolMap}
 use Rattle.shadow_stack.specs.Changes.{Change, change}
-use Rattle.shadow_stack.specs.Frames.{StartWithin, activation, restarted_frames, restarted_frame, stack}
+use Rattle.shadow_stack.specs.Frames.{activation, restarted_frames, stack}
 use Rattle.shadow_stack.specs.Stacks.{Activation, Stack}
-use Rattle.shadow_stack.specs.declared.frame.Frame.{Frame}
 use Rattle.arc_costs.specs.Arcs.{cleared_arcs}
 use Rattle.arc_costs.specs.Lines.{cleared_lines, has_line}
 use Rattle.event_costs.specs.Order.{same_place}
@@ -26,8 +24,9 @@ use Rattle.ctx_rows.specs.States.{CtxState, Track, after_part, after_ready, afte
 use Rattle.ctx_rows.specs.States.{contexts_with, track_after_cut, track_after_event, track}
 use Rattle.ctx_rows.specs.States.{with_started, with_track}
 use Rattle.ctx_costs.specs.inner.Keys.{Held}
-use Rattle.ctx_costs.specs.inner.Tracks.{Book, IsKept, IsPlaceOf, IsReadyFor, IsRoomy, IsSound, IsWatching, SameThread}
-use Rattle.ctx_costs.specs.inner.Tracks.{frames_of, track_of}
+use Rattle.ctx_costs.specs.inner.Tracks.{Book, IsFramed, IsKept, IsPlaceOf, IsReadyFor, IsRoomy, IsSound, IsWatching}
+use Rattle.ctx_costs.specs.inner.Tracks.{SameThread, frames_of, numbers_of, track_of}
+use Rattle.ctx_costs.proofs.NumberedLemmas.{open_many}
 use Rattle.ctx_costs.proofs.ReadyLemmas.{distinct_with, filled_with, is_there, none_is_ready, there_is, threads_of}
 use Rattle.ctx_costs.proofs.ReadyLemmas.{threads_set}
 use Rattle.ctx_costs.proofs.SummedLemmas.{cut_summed, cut_track}
@@ -111,12 +110,12 @@ module _ (callers : ℕ) (held now : Held) (books : List Book) (ready : Option T
         subst (λ (b : Book). IsKept callers held.contexts b) (sym old_is)
         (all_at (IsKept callers held.contexts) books place d watching.each less)
 
-    pub here_framed : 0 < length (track w thread).stack → 0 < length old.frames.items
+    pub here_framed : 0 < length (track w thread).stack → 0 < length old.numbers.items
     here_framed some =
-        let many = here_kept.sound.sums.as_many in
-        let all = length-reverse old.frames.items in
-        let now_ = subst (λ (t : Track). 0 < length t.stack) track_now some in
-        omega (arith, many, all, now_)
+        let live = here_live some in
+        let many = open_many old.stack.frames (numbers_of old) here_kept.framed.entered in
+        let all = length-reverse old.numbers.items in
+        omega (arith, live, many, all)
 
     -- any track in the place of that thread's
     module _ (new : Book) (same : new.thread ≡ old.thread) where
@@ -197,71 +196,58 @@ module _ (callers : ℕ) (held now : Held) (books : List Book) (ready : Option T
     -- after a cut
     module _ (new : Book) (frames : frames_of new ≡ restarted_frames old.total (frames_of old))
         (lines : new.rows.lines ≡ cleared_lines old.rows.lines) (arcs : new.rows.arcs ≡ cleared_arcs old.rows.arcs)
-        (same_stack : new.stack ≡ old.stack) (same : SameThread old new) where
-      same_lines : (rs : List LineRow) (q : Place) → has_line q (cleared_lines rs) ≡ has_line q rs
-      same_lines [] q = refl
-      same_lines (r ∷ rs) q = ap (λ b. same_place q r.place || b) (same_lines rs q)
+        (same_stack : stack new.stack.frames ≡ stack old.stack.frames) (same : SameThread old new) (framed : IsFramed new)
+      where
+        same_lines : (rs : List LineRow) (q : Place) → has_line q (cleared_lines rs) ≡ has_line q rs
+        same_lines [] q = refl
+        same_lines (r ∷ rs) q = ap (λ b. same_place q r.place || b) (same_lines rs q)
 
-      cut_sound : (cs : List Context) (t : Track) → IsSound callers cs t → IsSound callers cs (track_after_cut t)
-      cut_sound cs t sound = record {
-        sums = cut_summed t sound.sums;
-        numbered = numbered_restarted callers cs t.total t.frames t.stack sound.numbered;
-        lines = λ q there. sound.lines q (sym (same_lines t.lines q) ∙ there);
-        arcs = λ arc there. sound.arcs arc (sym (cleared_keys t.arcs arc) ∙ there);
-      }
+        cut_sound : (cs : List Context) (t : Track) → IsSound callers cs t → IsSound callers cs (track_after_cut t)
+        cut_sound cs t sound = record {
+          sums = cut_summed t sound.sums;
+          numbered = numbered_restarted callers cs t.total t.frames t.stack sound.numbered;
+          lines = λ q there. sound.lines q (sym (same_lines t.lines q) ∙ there);
+          arcs = λ arc there. sound.arcs arc (sym (cleared_keys t.arcs arc) ∙ there);
+        }
 
-      now_cut : track_of new ≡ track_after_cut (track_of old)
-      now_cut = cut_track old new frames lines arcs same_stack same
+        now_cut : track_of new ≡ track_after_cut (track_of old)
+        now_cut = cut_track old new frames lines arcs same_stack same
 
-      new_kept : IsKept callers held.contexts new
-      new_kept = record {
-        starts = subst (λ (fs : List Frame). StartWithin no_cost fs) (λ i. (sym same_stack i).frames) here_kept.starts;
-        sound =
-            subst (λ (t : Track). IsSound callers held.contexts t) (sym now_cut)
-            (cut_sound held.contexts (track_of old) here_kept.sound);
-      }
+        new_kept : IsKept callers held.contexts new
+        new_kept = record {
+          framed = framed;
+          sound =
+              subst (λ (t : Track). IsSound callers held.contexts t) (sym now_cut)
+              (cut_sound held.contexts (track_of old) here_kept.sound);
+        }
 
-      pub cut_watch : (IsRoomy old → IsRoomy new) → IsWatching callers held (slice_set books place new) ready
-      cut_watch room_kept = record {
-        few = watching.few;
-        each = all_set (IsKept callers held.contexts) books place new watching.each new_kept;
-        apart = apart_now new same.thread;
-        distinct = watching.distinct;
-        filled = watching.filled;
-        roomy = all_set (IsReadyFor ready) books place new watching.roomy
-            (λ own. room_kept (was_roomy (own ∙ ap (λ (n : ThreadNo). Some n) same.thread)));
-        room = watching.room;
-      }
-        where
-          was_roomy : IsReadyFor ready old
-          was_roomy =
-              subst (λ (b : Book). IsReadyFor ready b) (sym old_is)
-              (all_at (IsReadyFor ready) books place d watching.roomy less)
+        pub cut_watch : (IsRoomy old → IsRoomy new) → IsWatching callers held (slice_set books place new) ready
+        cut_watch room_kept = record {
+          few = watching.few;
+          each = all_set (IsKept callers held.contexts) books place new watching.each new_kept;
+          apart = apart_now new same.thread;
+          distinct = watching.distinct;
+          filled = watching.filled;
+          roomy = all_set (IsReadyFor ready) books place new watching.roomy
+              (λ own. room_kept (was_roomy (own ∙ ap (λ (n : ThreadNo). Some n) same.thread)));
+          room = watching.room;
+        }
+          where
+            was_roomy : IsReadyFor ready old
+            was_roomy =
+                subst (λ (b : Book). IsReadyFor ready b) (sym old_is)
+                (all_at (IsReadyFor ready) books place d watching.roomy less)
 
-      pub cut_state : ◌≡◌ {A = CtxState}
-          (record {
-            callers = callers;
-            contexts = held.contexts;
-            tracks = map track_of (slice_set books place new);
-            ready = ready;
-          }) (after_part w thread)
-      cut_state =
-          let tracks : map track_of (slice_set books place new) ≡ with_track (track_after_cut (track w thread))
-          (map track_of books)
-          = sym (tracks_now new same.thread (track_after_cut (track_of old)) now_cut)
-          ∙ ap (λ (t : Track). with_track (track_after_cut t) (map track_of books)) (sym track_now) in
-          λ i. record { callers = callers; contexts = held.contexts; tracks = tracks i; ready = ready }
-
--- a track that is cut has the room that it had
-pub room_still : (old new : Book) → frames_of new ≡ restarted_frames old.total (frames_of old)
-    → vec_capacity new.frames ≡ vec_capacity old.frames → new.rows.line_room ≡ old.rows.line_room
-    → new.rows.arc_room ≡ old.rows.arc_room → new.stack ≡ old.stack → IsRoomy old → IsRoomy new
-room_still old new frames capacity lines arcs stack_ room = record {
-  stack = subst (λ s. 1 ≤ s.spare) (sym stack_) room.stack;
-  frames =
-      let all = sym (length-reverse new.frames.items) ∙ ap (length {A = Frame}) frames
-      ∙ length-map (frames_of old) (restarted_frame old.total) ∙ length-reverse old.frames.items in
-      omega (arith, all, capacity, room.frames);
-  lines = omega (arith, lines, room.lines);
-  arcs = omega (arith, arcs, room.arcs);
-}
+        pub cut_state : ◌≡◌ {A = CtxState}
+            (record {
+              callers = callers;
+              contexts = held.contexts;
+              tracks = map track_of (slice_set books place new);
+              ready = ready;
+            }) (after_part w thread)
+        cut_state =
+            let tracks : map track_of (slice_set books place new) ≡ with_track (track_after_cut (track w thread))
+            (map track_of books)
+            = sym (tracks_now new same.thread (track_after_cut (track_of old)) now_cut)
+            ∙ ap (λ (t : Track). with_track (track_after_cut t) (map track_of books)) (sym track_now) in
+            λ i. record { callers = callers; contexts = held.contexts; tracks = tracks i; ready = ready }

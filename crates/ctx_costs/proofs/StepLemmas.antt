@@ -1,26 +1,78 @@
--- A step of a thread by contexts: which one is entered, and what is known of it afterwards.
-use Rattle.std.proofs.Common.{◌≡◌, ℕ, ◌+◌, ◌<◌, List, ◌∷◌, Option, Some, None, length, map, slice_get, take}
-use Rattle.std.proofs.Common.{ap, subst, sym, ◌∙◌}
+-- A step of a thread: it is counted, and its stack changes.
+use Rattle.std.proofs.Common.{◌≡◌, ℕ, ◌+◌, ◌<◌, ◌≤◌, ◌^◌, Bool, true, false, List, ◌∷◌, ◌++◌, Option}
+use Rattle.std.proofs.Common.{None, Some, drop, get_or, is_some, length, reverse, take, refl, sym, ap, subst}
+use Rattle.std.proofs.Common.{◌∙◌, arith, if◌then◌else◌}
+use Rattle.std.specs.Option.{option_map}
+use Rattle.std.specs.Prelude.{vec_capacity}
+use Rattle.std.proofs.lemmas.List.{length-map, length-reverse}
+use Rattle.event_costs.specs.Arcs.{Telling}
+use Rattle.event_costs.specs.Costs.{IsWhole, sum_of_costs}
 use Rattle.event_costs.specs.declared.event.Event.{Event}
-use Rattle.event_costs.specs.declared.numbers.FuncId.{FuncId}
-use Rattle.event_costs.specs.Keys.{Place}
+use Rattle.event_costs.specs.Keys.{ArcKey, Place}
 use Rattle.sym_map.specs.SymbolMap.{SymbolMap, place_of}
-use Rattle.shadow_stack.specs.Changes.{Change, change, new_activation, no_change}
-use Rattle.shadow_stack.specs.Frames.{stack}
-use Rattle.shadow_stack.specs.Stacks.{Activation}
+use Rattle.shadow_stack.specs.Changes.{after, change, drop_count, no_change}
+use Rattle.shadow_stack.specs.Frames.{StartWithin, activation, closings, pushing, stack, with_frame}
+use Rattle.shadow_stack.specs.Stacks.{Activation, is_rooted}
 use Rattle.shadow_stack.specs.declared.frame.Frame.{Frame}
-use Rattle.ctx_costs.proofs.Others.{IsPushed, cut_again, numbered_kept, numbered_top, read_there, within_list}
-use Rattle.ctx_rows.specs.Contexts.{Context, context, context_at, number, with_context}
+use Rattle.arc_costs.specs.Arcs.{add_arcs, arc_sum, call_sum}
+use Rattle.arc_costs.specs.Lines.{add_line, line, line_sum}
+use Rattle.event_costs.specs.Order.{same_place}
+use Rattle.arc_costs.specs.Rows.{ArcRow}
+use Rattle.recorder.specs.Notes.{rows_of_tellings}
+use Rattle.recorder.specs.inner.Books.{AreKeyed}
+use Rattle.recorder.specs.inner.Tellers.{CanTell, RowsAfterTellings}
+use Rattle.ctx_rows.specs.Contexts.{Context, context, number}
 use Rattle.ctx_rows.specs.Telling.{CanCount}
-use Rattle.ctx_rows.specs.States.{Track, contexts_after, contexts_with, entered_frame, kept_track_frames, pushed_track_frame, pushed_frame}
-use Rattle.ctx_rows.specs.States.{track_after_event, top_number}
+use Rattle.ctx_rows.specs.States.{Track, contexts_after, dropped_track_frames, entered_frame, kept_track_frames, pushed_frame}
+use Rattle.ctx_rows.specs.States.{pushed_track_frame, track_after_event}
 use Rattle.ctx_rows.specs.Tracks.{AreNumbered}
-use Rattle.ctx_costs.specs.inner.Tracks.{Book, IsKept, IsSound, frames_of, track_of}
-use Rattle.ctx_costs.proofs.NoteLemmas as note
-use Rattle.ctx_costs.proofs.NoteLemmas.{Counted, HasStepped, IsCounted, IsEntered, IsLeft}
+use Rattle.ctx_costs.specs.inner.Frames.{AreOpen, first_number, numbered_frames}
+use Rattle.ctx_costs.specs.inner.Tracks.{Book, CanEnter, IsChanged, IsFramed, IsKept, IsRoomy, IsSound, IsSummed, closings_gone}
+use Rattle.ctx_costs.specs.inner.Tracks.{frame_new, frames_of, numbers_of, track_of}
+use Rattle.ctx_costs.proofs.ChangedLemmas as changed
+use Rattle.ctx_costs.proofs.NumberedLemmas.{open_many, top_numbered}
+use Rattle.ctx_costs.proofs.Others.{AreKeyed-take, StartWithin-take, can_tell_cut, open_sum-split, starts_grown}
 use Rattle.ctx_costs.proofs.SoundLemmas as sound
+use Rattle.ctx_costs.proofs.SummedLemmas as summed
 
--- an event that is counted in a thread, by contexts
+-- where an event counts
+abbrev pub place_in : Book → Place → Place
+place_in b at = record { func = first_number (numbers_of b); file = at.file; line = at.line }
+
+-- once an event is counted
+pub record IsCounted (old : Book) (cost : List ℕ) (at : Place) (mid : Book) : Type 0 where
+  pub lines : mid.rows.lines ≡ add_line old.rows.lines (line (place_in old at) cost)
+  pub line_sums : (kind : ℕ) (place : Place) → line_sum kind place mid.rows.lines
+      ≡ line_sum kind place old.rows.lines + (if same_place place (place_in old at) then get_or cost kind 0 else 0)
+  pub total : mid.total ≡ sum_of_costs old.total cost
+  pub whole : IsWhole cost
+  pub arcs : mid.rows.arcs ≡ old.rows.arcs
+  pub arc_room : mid.rows.arc_room ≡ old.rows.arc_room
+  pub stack : mid.stack ≡ old.stack
+  pub numbers : mid.numbers ≡ old.numbers
+  pub thread : mid.thread ≡ old.thread
+
+enter_still : (old mid : Book) → mid.stack ≡ old.stack → mid.numbers ≡ old.numbers → mid.rows.arc_room ≡ old.rows.arc_room
+    → CanEnter old → CanEnter mid
+enter_still old mid same_stack same_numbers arcs room = record {
+  stack = subst (λ s. 1 ≤ s.spare) (sym same_stack) room.stack;
+  numbers = subst (λ ns. length ns.items < vec_capacity ns) (sym same_numbers) room.numbers;
+  arcs = omega (arith, arcs, room.arcs);
+}
+
+-- A track in which an event has only added to numbers has the room that it had.
+pub plain_room : (old mid : Book) (known : Bool) → mid.stack ≡ old.stack → mid.numbers ≡ old.numbers
+    → mid.rows.line_room + (if known then 0 else 1) ≡ old.rows.line_room → known ≡ true
+    → mid.rows.arc_room ≡ old.rows.arc_room → IsRoomy old → IsRoomy mid
+plain_room old mid known same_stack same_numbers lines there arcs room =
+    let same_lines : mid.rows.line_room + 0 ≡ old.rows.line_room
+    = ap (λ (b : Bool). mid.rows.line_room + (if b then 0 else 1)) (sym there) ∙ lines in
+    record {
+      enter = enter_still old mid same_stack same_numbers arcs room.enter;
+      lines = omega (arith, same_lines, room.lines);
+    }
+
+-- An event that is counted in a thread.
 pub record Noted : Type 0 where
   pub callers : ℕ
   pub contexts : List Context
@@ -36,26 +88,14 @@ pub record Noted : Type 0 where
   pub at_is : at ≡ place_of syms event.done.pc
   pub is : IsCounted old cost at mid
 
-abbrev pub counted : Noted → Counted
-counted n = record {
-  syms = n.syms;
-  event = n.event;
-  cost = n.cost;
-  spot = place_of n.syms n.event.done.pc;
-  fresh = pushed_track_frame n.callers n.contexts n.syms n.event (track_of n.old);
-  at = n.at;
-  old = n.old;
-  mid = n.mid;
-  sums = n.kept.sound.sums;
-  live = n.live;
-  can = n.can;
-  comes = note.some_mapped (λ (a : Activation). entered_frame (place_of n.syms n.event.done.pc)
-      (kept_track_frames n.syms n.event (track_of n.old)) (number n.contexts
-      (context n.callers (a ∷ (change n.syms n.event (stack n.old.stack.frames)).rest))))
-      (change n.syms n.event (stack n.old.stack.frames)).pushed;
-  at_is = n.at_is;
-  is = n.is;
-}
+-- a frame that is made of an activation comes where that does
+some_mapped : {X Y : Type 0} (f : X → Y) (o : Option X) → is_some (option_map f o) ≡ is_some o
+some_mapped f None = refl
+some_mapped f (Some x) = refl
+
+at_most : (b : Bool) (cost : ℕ) → (if b then cost else 0) ≤ cost
+at_most true cost = omega arith
+at_most false cost = omega arith
 
 module _ (n : Noted) where
   abbrev callers : ℕ
@@ -64,106 +104,170 @@ module _ (n : Noted) where
   abbrev cs : List Context
   cs = n.contexts
 
+  abbrev syms : SymbolMap
+  syms = n.syms
+
+  abbrev e : Event
+  e = n.event
+
+  abbrev old : Book
+  old = n.old
+
+  abbrev mid : Book
+  mid = n.mid
+
   abbrev t : Track
   t = track_of n.old
 
-  abbrev made : Change
-  made = change n.syms n.event (stack n.old.stack.frames)
+  abbrev total : List ℕ
+  total = sum_of_costs n.old.total n.cost
 
-  -- what is kept of the thread holds again, with the contexts that have come up
-  kept_after : (new : Book) → HasStepped (counted n) new
-      → IsKept n.callers (contexts_after n.callers n.contexts made) new
-  kept_after new done = record {
-    starts = done.stack_starts;
-    sound =
-        subst (λ (u : Track). IsSound callers (contexts_after callers cs made) u) (sym done.track)
-        (sound.sound_after callers cs n.syms n.event n.cost t n.mid.rows new.rows n.kept.sound
-        (note.alive (counted n)) (sym n.is.arcs) done.arcs done.told done.sums);
+  abbrev fresh : Option Activation
+  fresh = pushed_track_frame n.callers n.contexts n.syms n.event (track_of n.old)
+
+  abbrev track_then : Track
+  track_then = track_after_event n.callers n.contexts n.syms n.event n.cost (track_of n.old)
+
+  abbrev gone : List Telling
+  gone = closings total (dropped_track_frames syms e t)
+
+  sums : IsSummed t
+  sums = n.kept.sound.sums
+
+  alive : 0 < length t.stack
+  alive = let all = length-map old.stack.frames activation in omega (arith, all, n.live)
+
+  pub mid_live : 0 < length n.mid.stack.frames
+  mid_live = subst (λ s. 0 < length s.frames) (sym n.is.stack) n.live
+
+  pub mid_rooted : is_rooted (stack n.mid.stack.frames) ≡ true
+  mid_rooted = subst (λ s. is_rooted (stack s.frames) ≡ true) (sym n.is.stack) (sums.rooted alive)
+
+  pub mid_framed : IsFramed n.mid
+  mid_framed = record {
+    starts =
+        subst (λ (sum : List ℕ). StartWithin sum mid.stack.frames) (sym n.is.total)
+        (subst (λ s. StartWithin total s.frames) (sym n.is.stack)
+        (starts_grown old.total n.cost old.stack.frames sums.whole n.is.whole n.kept.framed.starts));
+    entered =
+        subst (λ s. AreOpen s.frames (numbers_of mid)) (sym n.is.stack)
+        (subst (λ ns. AreOpen old.stack.frames (reverse ns.items)) (sym n.is.numbers) n.kept.framed.entered);
   }
 
-  module _ (left : Book) (goes : IsLeft n.syms n.event n.mid left) where
-    -- where no frame comes
-    module _ (none : (change n.syms n.event (stack n.old.stack.frames)).pushed ≡ None) where
-      pub left_track : track_of left ≡ track_after_event n.callers n.contexts n.syms n.event n.cost (track_of n.old)
-      left_track = (note.left_stepped (counted n) left goes none).track
+  pub mid_enter : CanEnter n.old → CanEnter n.mid
+  mid_enter room = enter_still old mid n.is.stack n.is.numbers n.is.arc_room room
 
-      pub left_contexts : n.contexts
-          ≡ contexts_after n.callers n.contexts (change n.syms n.event (stack n.old.stack.frames))
-      left_contexts = sym (ap (λ (p : Option Activation). contexts_with callers cs p made.rest) none)
+  mid_frames : frames_of mid ≡ frames_of old
+  mid_frames = λ i. numbered_frames (n.is.stack i).frames (reverse (n.is.numbers i).items)
 
-      pub left_kept : IsKept n.callers n.contexts left
-      left_kept =
-          subst (λ (ds : List Context). IsKept callers ds left) (sym left_contexts)
-          (kept_after left (note.left_stepped (counted n) left goes none))
+  pub mid_numbered : AreNumbered n.callers n.contexts (frames_of n.mid) (stack n.mid.stack.frames)
+  mid_numbered =
+      subst (λ s. AreNumbered callers cs (frames_of mid) (stack s.frames)) (sym n.is.stack)
+      (subst (λ (fs : List Frame). AreNumbered callers cs fs t.stack) (sym mid_frames) n.kept.sound.numbered)
 
-    -- where a frame comes
-    module _ (p : IsPushed n.syms n.event (track_of n.old).stack) where
-      abbrev a : Activation
-      a = new_activation n.syms n.event p.kind (p.caller ∷ p.under)
+  closed : closings_gone syms e mid ≡ gone
+  closed = λ i. closings (n.is.total i) (take (drop_count syms e (stack (n.is.stack i).frames)) (mid_frames i))
 
-      -- the context that is entered
-      abbrev pub context_entered : Context
-      context_entered =
-          context n.callers (new_activation n.syms n.event p.kind (p.caller ∷ p.under)
-          ∷ (change n.syms n.event (stack n.old.stack.frames)).rest)
+  same_fresh : frame_new callers cs syms e mid ≡ fresh
+  same_fresh = λ i.
+      pushed_frame callers cs (place_of syms e.done.pc)
+      (drop (drop_count syms e (stack (n.is.stack i).frames)) (mid_frames i)) (change syms e (stack (n.is.stack i).frames))
 
-      kept_numbered : AreNumbered callers cs (kept_track_frames n.syms n.event t) made.rest
-      kept_numbered = numbered_kept callers cs n.syms n.event t n.kept.sound.numbered
+  pub mid_can : CanTell n.mid.rows (closings_gone n.syms n.event n.mid)
+  mid_can =
+      let count = drop_count syms e t.stack in
+      let starts = starts_grown old.total n.cost t.frames sums.whole n.is.whole sums.starts in
+      subst (λ (ts : List Telling). CanTell mid.rows ts) (sym closed)
+      (can_tell_cut total (dropped_track_frames syms e t) mid.rows (StartWithin-take total count t.frames starts)
+      (AreKeyed-take mid.rows.arcs count t.frames
+      (subst (λ (rs : List ArcRow). AreKeyed rs t.frames) (sym n.is.arcs) sums.keyed))
+      (λ kind arc. omega (
+        arith,
+        n.can.arcs kind arc,
+        open_sum-split kind total arc count t.frames,
+        ap (arc_sum kind arc) n.is.arcs,
+      ))
+      (λ arc. omega (arith, n.can.calls arc, ap (call_sum arc) n.is.arcs)))
 
-      top_is : slice_get cs (top_number (frames_of left)).0 ≡ Some (context callers made.rest)
-      top_is =
-          ap (λ (fs : List Frame). slice_get cs (top_number fs).0) (note.frames_left (counted n) left goes)
-          ∙ numbered_top callers cs (kept_track_frames n.syms n.event t) made.rest kept_numbered
-          (note.some_kept (counted n) left goes p)
+  pub mid_calls : (arc : ArcKey) → call_sum arc n.mid.rows.arcs + 1 < 2 ^ 64
+  mid_calls arc = omega (arith, n.can.calls arc, ap (call_sum arc) n.is.arcs)
 
-      pub top_within : (top_number (frames_of left)).0 < length n.contexts
-      top_within = within_list cs (top_number (frames_of left)).0 (context callers made.rest) top_is
+  -- once the stack has changed
+  module _ (more : List Context) (new : Book)
+      (done : IsChanged n.callers n.contexts more n.syms n.event n.mid new) where
+    told : RowsAfterTellings mid.rows (gone ++ pushing fresh) new.rows
+    told = subst (λ (ts : List Telling). RowsAfterTellings mid.rows ts new.rows)
+        (λ i. closed i ++ pushing (same_fresh i)) done.told
 
-      pub context_is : (top : FuncId) (next : Place) (beneath new : Context) → top ≡ top_number (frames_of left)
-          → next ≡ place_of n.syms n.event.done.next → beneath ≡ context_at n.contexts top
-          → new ≡ take (n.callers + 1) (next.func.0 ∷ beneath) → new ≡ context_entered
-      context_is top next beneath new top_ next_ beneath_ new_ =
-          let under = beneath_ ∙ ap (context_at cs) top_
-          ∙ read_there cs (top_number (frames_of left)).0 (context callers made.rest) top_is in
-          new_ ∙ (λ i. take (callers + 1) ((next_ i).func.0 ∷ under i))
-          ∙ cut_again callers (place_of n.syms n.event.done.next).func.0
-          (map (λ (b : Activation). b.func.0) made.rest)
+    lines_are : new.rows.lines ≡ track_then.lines
+    lines_are =
+        told.lines ∙ n.is.lines
+        ∙ (λ i. add_line t.lines (line (record {
+          func = sym (top_numbered old.stack.frames (numbers_of old) n.kept.framed.entered) i;
+          file = (n.at_is i).file;
+          line = (n.at_is i).line;
+        }) n.cost))
 
-      pub entered_contexts : with_context n.contexts context_entered
-          ≡ contexts_after n.callers n.contexts (change n.syms n.event (stack n.old.stack.frames))
-      entered_contexts = sym (ap (λ (q : Option Activation). contexts_with callers cs q made.rest) p.pushed)
+    arcs_are : new.rows.arcs ≡ track_then.arcs
+    arcs_are = told.arcs ∙ ap (λ (rs : List ArcRow). add_arcs rs (rows_of_tellings (gone ++ pushing fresh))) n.is.arcs
 
-      is_fresh : pushed_track_frame callers cs n.syms n.event t
-          ≡ Some (entered_frame (place_of n.syms n.event.done.pc) (kept_track_frames n.syms n.event t) (number cs context_entered))
-      is_fresh =
-          ap (λ (q : Option Activation). pushed_frame callers cs (place_of n.syms n.event.done.pc)
-          (kept_track_frames n.syms n.event t) (record { rest = made.rest; pushed = q })) p.pushed
+    stacked : stack new.stack.frames ≡ track_then.stack
+    stacked = done.stacked ∙ (λ i. after syms (stack (n.is.stack i).frames) e)
 
-      module _ (m : FuncId) (new : Book) (m_is : m ≡ number n.contexts context_entered)
-          (comes : IsEntered n.at m left new) where
-        stepped : HasStepped (counted n) new
-        stepped =
-            note.new_stepped (counted n) left goes p m new
-            (is_fresh ∙ ap (λ (k : FuncId). Some (entered_frame (place_of n.syms n.event.done.pc)
-            (kept_track_frames n.syms n.event t) k)) (sym m_is)) comes
+    frames_are : frames_of new ≡ track_then.frames
+    frames_are = done.frames ∙ (λ i. with_frame (n.is.total i) (same_fresh i)
+        (drop (drop_count syms e (stack (n.is.stack i).frames)) (mid_frames i)))
 
-        pub new_track : track_of new ≡ track_after_event n.callers n.contexts n.syms n.event n.cost (track_of n.old)
-        new_track = stepped.track
+    pub new_track : track_of new ≡ track_after_event n.callers n.contexts n.syms n.event n.cost (track_of n.old)
+    new_track =
+        let thread = done.same.thread ∙ n.is.thread in
+        let sum = done.same.total ∙ n.is.total in
+        λ i. record {
+          thread = thread i;
+          stack = stacked i;
+          frames = frames_are i;
+          total = sum i;
+          lines = lines_are i;
+          arcs = arcs_are i;
+        }
 
-        pub new_kept : IsKept n.callers
-            (contexts_after n.callers n.contexts (change n.syms n.event (stack n.old.stack.frames))) new
-        new_kept = kept_after new stepped
+    pub new_contexts : more
+        ≡ contexts_after n.callers n.contexts (change n.syms n.event (stack n.old.stack.frames))
+    new_contexts = done.contexts ∙ (λ i. contexts_after callers cs (change syms e (stack (n.is.stack i).frames)))
+
+    sums_are : (kind : ℕ) (place : Place) → line_sum kind place track_then.lines
+        ≤ line_sum kind place t.lines + get_or n.cost kind 0
+    sums_are kind place =
+        let now = ap (line_sum kind place) (sym lines_are ∙ told.lines) in
+        let most = at_most (same_place place (place_in old n.at)) (get_or n.cost kind 0) in
+        omega (arith, now, n.is.line_sums kind place, most)
+
+    summed_then : IsSummed track_then
+    summed_then =
+        summed.summed_after (place_of syms e.done.pc) fresh syms e n.cost t mid.rows new.rows sums n.is.whole n.can alive
+        (some_mapped (λ (a : Activation). entered_frame (place_of syms e.done.pc) (kept_track_frames syms e t)
+        (number cs (context callers (a ∷ (change syms e t.stack).rest)))) (change syms e t.stack).pushed)
+        (sym n.is.arcs) (sym arcs_are) told sums_are
+
+    pub new_kept : IsKept n.callers more new
+    new_kept = record {
+      framed = done.framed;
+      sound =
+          subst (λ (ds : List Context). IsSound callers ds (track_of new)) (sym new_contexts)
+          (subst (λ (u : Track). IsSound callers (contexts_after callers cs (change syms e t.stack)) u) (sym new_track)
+          (sound.sound_after callers cs syms e n.cost t mid.rows new.rows n.kept.sound alive (sym n.is.arcs)
+          (sym arcs_are) told summed_then));
+    }
 
   -- where the event leaves the stack as it is
   module _ (stays : change n.syms n.event (stack n.old.stack.frames) ≡ no_change (stack n.old.stack.frames)) where
-    still : IsLeft n.syms n.event n.mid n.mid
-    still = note.none_left_of n.syms n.event n.old n.mid n.is.stack stays n.kept.starts
+    pub plain_done : IsChanged n.callers n.contexts n.contexts n.syms n.event n.mid n.mid
+    plain_done =
+        let now = subst (λ s. change syms e (stack s.frames) ≡ no_change (stack s.frames)) (sym n.is.stack) stays in
+        changed.still_changed callers cs syms e mid mid_framed now
 
-    none : made.pushed ≡ None
-    none = ap (λ (h : Change). h.pushed) stays
-
-    pub plain_track : track_of n.mid ≡ track_after_event n.callers n.contexts n.syms n.event n.cost (track_of n.old)
-    plain_track = left_track n.mid still none
-
-    pub plain_kept : IsKept n.callers n.contexts n.mid
-    plain_kept = left_kept n.mid still none
+-- where there are frames there are numbers
+pub numbers_live : (b : Book) → IsFramed b → 0 < length b.stack.frames → 0 < length b.numbers.items
+numbers_live b framed live =
+    let many = open_many b.stack.frames (numbers_of b) framed.entered in
+    omega (arith, live, many, length-reverse b.numbers.items)

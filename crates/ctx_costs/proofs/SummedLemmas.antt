@@ -2,7 +2,7 @@
 use Rattle.std.proofs.Common.{◌≡◌, ℕ, zero, suc, ◌+◌, ◌<◌, ◌≤◌, Bool, true, false, List, [], ◌∷◌}
 use Rattle.std.proofs.Common.{◌++◌, Option, None, Some, IfSome, drop, length}
 use Rattle.std.proofs.Common.{get_or, is_some, refl, sym, ap, ◌∙◌, arith}
-use Rattle.std.proofs.lemmas.List.{length-map, length-reverse}
+use Rattle.std.proofs.lemmas.List.{length-map}
 use Rattle.std.specs.Option.{option_map_or}
 use Rattle.event_costs.specs.Costs.{IsWhole, no_cost, sum_of_costs}
 use Rattle.event_costs.specs.Arcs.{Pushed}
@@ -12,7 +12,7 @@ use Rattle.event_costs.specs.declared.numbers.FuncId.{FuncId}
 use Rattle.event_costs.specs.declared.numbers.ThreadNo.{ThreadNo}
 use Rattle.sym_map.specs.SymbolMap.{SymbolMap}
 use Rattle.shadow_stack.specs.Changes.{after, change, drop_count, with_pushed}
-use Rattle.shadow_stack.specs.Frames.{StartWithin, activation, closings, pushing, restarted_frames}
+use Rattle.shadow_stack.specs.Frames.{StartWithin, closings, pushing, restarted_frames}
 use Rattle.shadow_stack.specs.Frames.{restarted_frame, stack, with_frame}
 use Rattle.shadow_stack.specs.Stacks.{Activation, Stack, is_rooted}
 use Rattle.shadow_stack.specs.declared.frame.Frame.{Frame}
@@ -38,11 +38,6 @@ use Rattle.ctx_rows.specs.States.{Track, first_track, track_after_cut, dropped_t
 use Rattle.ctx_costs.proofs.TellingLemmas.{has_arc-append}
 use Rattle.ctx_costs.specs.inner.Tracks.{Book, IsSummed, SameThread, frames_of, stepped, track_of}
 use Rattle.std.proofs.lemmas.Bool.{or_left, or_right}
-
--- as many frames are kept as the stack has
-pub frames_of_stack : (b : Book) → IsSummed (track_of b) → length b.frames.items ≡ length b.stack.frames
-frames_of_stack b sums =
-    sym (length-reverse b.frames.items) ∙ sums.as_many ∙ length-map b.stack.frames activation
 
 same_rest : {X Y : Type 0} (n : ℕ) (xs : List X) (ys : List Y) → length xs ≡ length ys
     → length (drop n xs) ≡ length (drop n ys)
@@ -247,10 +242,10 @@ cut_summed t sound =
 -- a track that is cut
 pub cut_track : (old new : Book) → frames_of new ≡ restarted_frames old.total (frames_of old)
     → new.rows.lines ≡ cleared_lines old.rows.lines → new.rows.arcs ≡ cleared_arcs old.rows.arcs
-    → new.stack ≡ old.stack → SameThread old new → track_of new ≡ track_after_cut (track_of old)
+    → stack new.stack.frames ≡ stack old.stack.frames → SameThread old new → track_of new ≡ track_after_cut (track_of old)
 cut_track old new frames lines arcs same_stack same = λ i. record {
   thread = same.thread i;
-  stack = stack (same_stack i).frames;
+  stack = same_stack i;
   frames = frames i;
   total = same.total i;
   lines = lines i;

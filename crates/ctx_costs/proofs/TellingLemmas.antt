@@ -1,16 +1,15 @@
 -- Tables after several tellings.
 use Rattle.std.proofs.Common.{◌≡◌, Bool, true, false, ◌||◌, List, [], ◌∷◌, ◌++◌, refl, sym, ap}
 use Rattle.std.proofs.Common.{◌∙◌, arith}
-use Rattle.std.specs.List.{AllByRecursion}
 use Rattle.std.proofs.lemmas.List.Sums.{fold-append}
-use Rattle.event_costs.specs.Arcs.{Telling, Pushed, Closed}
+use Rattle.event_costs.specs.Arcs.{Telling}
 use Rattle.event_costs.specs.Keys.{ArcKey}
 use Rattle.arc_costs.specs.Arcs.{add_arc, add_arcs, has_arc}
 use Rattle.arc_costs.specs.Contents.{Contents}
 use Rattle.event_costs.specs.Order.{same_arc}
 use Rattle.arc_costs.specs.Rows.{ArcRow}
 use Rattle.recorder.specs.Notes.{rows_of_tellings}
-use Rattle.recorder.specs.inner.Tellers.{CanTell, IsKeyed, RowsAfterTellings}
+use Rattle.recorder.specs.inner.Tellers.{RowsAfterTellings}
 use Rattle.recorder.specs.inner.TellerLaws.{count_pushes-append, telling_calls-append, telling_costs-append, rows_of_tellings-append}
 
 or_assoc : (a b c : Bool) → (a || b) || c ≡ a || (b || c)
@@ -40,30 +39,4 @@ told_on old mid new ts us one more = record {
       (sym (ap (has_arc arc) (rows_of_tellings-append ts us) ∙ has_arc-append arc (rows_of_tellings ts) (rows_of_tellings us)));
   line_room = more.line_room ∙ one.line_room;
   arc_room = let all = count_pushes-append ts us in omega (arith, all, one.arc_room, more.arc_room);
-}
-
-keyed_rest : (arcs : List ArcRow) (ts us : List Telling) → AllByRecursion (IsKeyed arcs) (ts ++ us)
-    → AllByRecursion (IsKeyed arcs) us
-keyed_rest arcs [] us all = all
-keyed_rest arcs (t ∷ ts) us all = keyed_rest arcs ts us all.1
-
-still_keyed : (old new : List ArcRow) (added : ArcKey → Bool)
-    → ((arc : ArcKey) → has_arc arc new ≡ has_arc arc old || added arc)
-    → (ts : List Telling) → AllByRecursion (IsKeyed old) ts → AllByRecursion (IsKeyed new) ts
-still_keyed old new added keys [] all = tt
-still_keyed old new added keys (Pushed arc ∷ ts) all = (tt, still_keyed old new added keys ts all.1)
-still_keyed old new added keys (Closed arc cost ∷ ts) all =
-    (keys arc ∙ ap (λ b. b || added arc) all.0, still_keyed old new added keys ts all.1)
-
--- what can be told after the first of two lists
-pub can_rest : (old new : Contents) (ts us : List Telling) → CanTell old (ts ++ us) → RowsAfterTellings old ts new
-    → CanTell new us
-can_rest old new ts us can told = record {
-  room = let more = count_pushes-append ts us in omega (arith, more, can.room, told.arc_room);
-  keyed =
-      still_keyed old.arcs new.arcs (λ arc. has_arc arc (rows_of_tellings ts)) told.keys us
-      (keyed_rest old.arcs ts us can.keyed);
-  costs = λ kind arc. let more = telling_costs-append kind arc ts us in
-      omega (arith, more, can.costs kind arc, told.costs kind arc);
-  calls = λ arc. let more = telling_calls-append arc ts us in omega (arith, more, can.calls arc, told.calls arc);
 }

@@ -103,7 +103,7 @@ sound_more callers cs c t sound = record {
 pub kept_more : (callers : ℕ) (cs : List Context) (c : Context) (b : Book) → IsKept callers cs b
     → IsKept callers (with_context cs c) b
 kept_more callers cs c b kept =
-    record { starts = kept.starts; sound = sound_more callers cs c (track_of b) kept.sound }
+    record { framed = kept.framed; sound = sound_more callers cs c (track_of b) kept.sound }
 
 -- where a search ends
 pub none_any : {X : Type 0} (p : X → Bool) (xs : List X) → length xs ≤ position_or_len p xs → list_any p xs ≡ false

@@ -1,6 +1,7 @@
 -- Words of private contracts. No public clause rests on them.
 pub mod Keys
+pub mod Frames
+pub mod Tellings
 pub mod Naming
-pub mod Pushing
 pub mod Tracks
 pub mod WatchLaw

@@ -1,12 +1,11 @@
 //! Costs by calling context: a watch of a run whose parts tell a function apart by who called it.
 #![tactic(auto)]
 
+mod closing;
 mod context;
 mod contexts;
-mod entered;
 mod names;
 mod noting;
-mod pushes;
 mod sorting;
 mod track;
 mod watch;

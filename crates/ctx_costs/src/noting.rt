@@ -7,8 +7,9 @@ ghost use Rattle.shadow_stack.specs.Frames.{stack};
 ghost use Rattle.arc_costs.specs.Lines.{has_line};
 ghost use Rattle.ctx_rows.specs.Contexts.{Context};
 ghost use Rattle.ctx_rows.specs.Telling.{CanCount};
-ghost use Rattle.ctx_rows.specs.States.{contexts_after, track_after_event, top_number};
-ghost use Rattle.ctx_costs.specs.inner.Tracks.{IsKept, IsRoomy, frames_of, track_of};
+ghost use Rattle.ctx_rows.specs.States.{contexts_after, track_after_event};
+ghost use Rattle.ctx_costs.specs.inner.Frames.{first_number};
+ghost use Rattle.ctx_costs.specs.inner.Tracks.{IsKept, IsRoomy, numbers_of, track_of};
 
 use crate::contexts::Contexts;
 use crate::track::Track;
@@ -41,27 +42,22 @@ pub(crate) fn note(
         (change syms.now event.now (stack track.old.stack.frames)) }
     ensures kept { IsKept callers contexts.new.contexts track.new }
 {
-    let at = syms.place(event.done.pc);
     let context = track.top().low();
     let looked = near.of(event, context);
-    let row = track.count(looked, at, cost);
+    let row = track.count(looked, syms.place(event.done.pc), cost);
     near.remember(event, context, looked, row);
-    if track.change(event, syms) {
-        let beneath = contexts.context(track.top());
-        let entered = beneath.entering(syms.place(event.done.next).func, callers as usize + 1);
-        track.enter(at, contexts.number_of(entered));
-    }
+    track.change(event, syms, contexts, callers);
 }
 
 /// Whether it is seen at once that an event only adds to a row, which stands at this index, and to the total of its
 /// thread.
 #[inline(always)]
 pub(crate) fn is_plain(track: &Track, looked: usize, event: &Event, syms: &SymMap) -> bool
-    requires live { 0 < length track.now.frames.items }
+    requires live { 0 < length track.now.numbers.items }
     ensures stays { result ≡ true → change syms.now event.now (stack track.now.stack.frames)
         ≡ no_change (stack track.now.stack.frames) }
     ensures there { result ≡ true → has_line (record {
-      func = top_number (frames_of track.now);
+      func = first_number (numbers_of track.now);
       file = (place_of syms.now event.now.done.pc).file;
       line = (place_of syms.now event.now.done.pc).line;
     }) track.now.rows.lines ≡ true }
@@ -87,12 +83,12 @@ pub(crate) fn note_plain(
 )
     requires room { IsRoomy track.old }
     requires live { 0 < length track.old.stack.frames }
-    requires frames { 0 < length track.old.frames.items }
+    requires numbers { 0 < length track.old.numbers.items }
     requires sums { CanCount (track_of track.old) ones.now }
     requires stays { change syms.now event.now (stack track.old.stack.frames)
         ≡ no_change (stack track.old.stack.frames) }
     requires there { has_line (record {
-      func = top_number (frames_of track.old);
+      func = first_number (numbers_of track.old);
       file = (place_of syms.now event.now.done.pc).file;
       line = (place_of syms.now event.now.done.pc).line;
     }) track.old.rows.lines ≡ true }

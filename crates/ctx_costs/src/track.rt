@@ -1,77 +1,68 @@
 //! What is kept of one thread.
 
-ghost use Rattle.std.specs.Prelude.{◌≡◌, ◌+◌, ◌-◌, ◌<◌, ◌≤◌, ◌^◌, ◌∷◌, ◌++◌, [], ℕ, All, IfOk, List, None, OnErr, OnOk, Some, drop};
-ghost use Rattle.std.specs.Prelude.{if◌then◌else◌, is_some, length, slice_index, take, true, vec_capacity};
-ghost use Rattle.std.specs.List.{AllZip};
-ghost use Rattle.event_costs.specs.Arcs.{Pushed};
-ghost use Rattle.event_costs.specs.Costs.{IsWhole, no_cost, sum_of_costs};
+ghost use Rattle.std.specs.Prelude.{◌≡◌, ◌+◌, ◌-◌, ◌<◌, ◌≤◌, ◌^◌, ◌++◌, ℕ, All, IfOk, List, OnOk, Some};
+ghost use Rattle.std.specs.Prelude.{if◌then◌else◌, length, reverse, slice_index, take, true, vec_capacity};
+ghost use Rattle.event_costs.specs.Costs.{IsWhole, sum_of_costs};
 ghost use Rattle.event_costs.specs.Keys.{ArcKey as ArcKeyValue, Place as PlaceValue};
 ghost use Rattle.arc_costs.specs.Arcs.{ArcsStandFor, arc_sum, call_sum, cleared_arcs};
 ghost use Rattle.arc_costs.specs.Rows.{ArcRow as ArcRowValue};
 ghost use Rattle.arc_costs.specs.Lines.{add_line, cleared_lines, has_line, line, line_index, line_sum};
 ghost use Rattle.event_costs.specs.Order.{same_place};
 ghost use Rattle.recorder.specs.Notes.{open_sum, rows_of_tellings};
-ghost use Rattle.recorder.specs.inner.Books.{AreKeyed, AreRowsIn};
 ghost use Rattle.recorder.specs.inner.Tellers.{CanTell, RowsAfterTellings};
 ghost use Rattle.recorder.specs.Standing.{IsCutOf};
-ghost use Rattle.sym_map.specs.SymbolMap.{place_of};
 ghost use Rattle.shadow_stack.specs.Changes.{after, change, drop_count, no_change};
-ghost use Rattle.shadow_stack.specs.Frames.{StartWithin, closing, closings, restarted_frames, stack};
+ghost use Rattle.shadow_stack.specs.Frames.{StartWithin, closings, frames_after, restarted_frames, stack};
 ghost use Rattle.shadow_stack.specs.Stacks.{is_rooted};
-ghost use Rattle.shadow_stack.specs.declared.frame.Kind.TheVariants.{Jump};
-ghost use Rattle.ctx_rows.specs.States.{first_track, entering_arc, top_number};
-ghost use Rattle.ctx_costs.specs.inner.Tracks.{IsRoomy, SameThread, frames_of, track_of};
-ghost use Rattle.ctx_rows.specs.Tracks.{account_of};
+ghost use Rattle.ctx_rows.specs.States.{first_track};
+ghost use Rattle.ctx_rows.specs.Tracks.{AreNumbered, account_of};
+ghost use Rattle.ctx_costs.specs.inner.Frames.{AreOpen, first_number, numbered_frames, pushed_entry};
+ghost use Rattle.ctx_costs.specs.inner.Tracks.{CanEnter, IsChanged, IsEntered, IsFramed, IsLeft, IsRoomy, SameThread, closings_gone};
+ghost use Rattle.ctx_costs.specs.inner.Tracks.{frames_of, numbers_of, track_of};
 
-use crate::entered::Entered;
-use crate::pushes::Pushes;
+use crate::closing::{Closing, Entry, Opening, Unheard};
+use crate::contexts::Contexts;
 use arc_costs::{TableRows, Tables};
 use byte_text::OutOfMemory;
-use event_costs::{ArcKey, ContextNo, Cost, Event, FuncId, Number, Place, ThreadNo};
+use event_costs::{ArcKey, ContextNo, Cost, Event, FuncId, Place, ThreadNo};
 use recorder::EventCost;
-use shadow_stack::{Kind, ShadowStack, goes_on};
+use shadow_stack::{ShadowStack, goes_on};
 use std::alloc::Global;
 use sym_map::SymMap;
 
 /// A thread's stack, and its costs by the numbers of contexts.
 #[derive(Drop)]
-pub struct Track<N: Number = ContextNo> {
+pub struct Track {
     pub alloc: Global,
     pub thread: ThreadNo,
-    /// Its frames have no costs.
     pub stack: ShadowStack,
-    /// The frames of the stack, the root first, by the numbers of their contexts.
-    pub frames: Vec<Entered<N>>,
+    /// The number of the context of each frame, the root's first.
+    pub numbers: Vec<ContextNo>,
     pub total: Cost,
-    pub rows: Tables<N>,
+    pub rows: Tables<ContextNo>,
 }
 
-impl<N: Number> Track<N> {
+impl Track {
     /// A thread that begins in this function, whose context has this number. There is room for a step.
     pub fn new(
         alloc: Global,
         thread: ThreadNo,
         func: FuncId,
-        number: N,
-    ) -> Result<Track<N>, OutOfMemory>
-        ensures track { IfOk result (λ b. track_of b ≡ first_track thread func (N.number number)) }
-        ensures starts { IfOk result (λ b. StartWithin no_cost b.stack.frames) }
+        number: ContextNo,
+    ) -> Result<Track, OutOfMemory>
+        ensures track { IfOk result (λ b. track_of b ≡ first_track thread func number) }
+        ensures framed { IfOk result IsFramed }
         ensures room { IfOk result IsRoomy }
     {
-        let mut frames = Vec::with_capacity(alloc, 2)?;
-        frames.push(Entered {
-            func: number,
-            from: None,
-            kind: Kind::Root,
-            start: Cost::ZERO,
-        })?;
+        let mut numbers = Vec::with_capacity(alloc, 2)?;
+        numbers.push(number)?;
         let mut stack = ShadowStack::new(alloc, func, &Cost::ZERO)?;
         stack.reserve()?;
         Ok(Track {
             alloc,
             thread,
             stack,
-            frames,
+            numbers,
             total: Cost::ZERO,
             rows: Tables::new(alloc),
         })
@@ -82,55 +73,52 @@ impl<N: Number> Track<N> {
     #[inline(never)]
     pub fn reserve(&mut self) -> Result<(), OutOfMemory>
         ensures track { track_of self.new ≡ track_of self.old }
-        ensures stack { self.new.stack.frames ≡ self.old.stack.frames }
+        ensures framed { IsFramed self.old → IsFramed self.new }
         ensures room { OnOk result (IsRoomy self.new) }
         ensures room_kept { IsRoomy self.old → IsRoomy self.new }
     {
         self.stack.reserve()?;
-        self.frames.reserve(1)?;
+        self.numbers.reserve(1)?;
         self.rows.reserve()
     }
 
     /// The number of the top frame's context.
     #[inline(always)]
-    pub fn top(&self) -> N
-        requires { 0 < length self.now.frames.items }
-        ensures { N.number result ≡ top_number (frames_of self.now) }
+    pub fn top(&self) -> ContextNo
+        requires { 0 < length self.now.numbers.items }
+        ensures { result ≡ first_number (numbers_of self.now) }
     {
-        match self.frames.last() {
-            Some(frame) => frame.number(),
-            None => unreachable!(),
-        }
+        self.numbers[self.numbers.len() - 1]
     }
 
     /// Counts an event at this place, in the context of the top frame. Its row is looked for at this index first; the
     /// answer is the row's index.
     #[inline(always)]
     pub fn count<C: EventCost>(&mut self, near: usize, at: Place, cost: &C) -> usize
-        requires live { 0 < length self.old.frames.items }
+        requires live { 0 < length self.old.numbers.items }
         requires room { 1 ≤ self.old.rows.line_room }
         requires lines { (kind : ℕ) (place : PlaceValue)
             → line_sum kind place self.old.rows.lines + slice_index (C.numbers cost.now) kind < 2 ^ 64 }
         requires total { (kind : ℕ)
             → slice_index self.old.total kind + slice_index (C.numbers cost.now) kind < 2 ^ 64 }
         ensures lines { self.new.rows.lines ≡ add_line self.old.rows.lines
-            (line (record { func = top_number (frames_of self.old); file = at.file; line = at.line })
+            (line (record { func = first_number (numbers_of self.old); file = at.file; line = at.line })
             (C.numbers cost.now)) }
         ensures line_sums { (kind : ℕ) (place : PlaceValue) → line_sum kind place self.new.rows.lines
             ≡ line_sum kind place self.old.rows.lines
-            + (if same_place place (record { func = top_number (frames_of self.old); file = at.file; line = at.line })
+            + (if same_place place (record { func = first_number (numbers_of self.old); file = at.file; line = at.line })
             then slice_index (C.numbers cost.now) kind else 0) }
         ensures line_room { self.new.rows.line_room + (if has_line
-            (record { func = top_number (frames_of self.old); file = at.file; line = at.line }) self.old.rows.lines
+            (record { func = first_number (numbers_of self.old); file = at.file; line = at.line }) self.old.rows.lines
             then 0 else 1) ≡ self.old.rows.line_room }
         ensures total { self.new.total ≡ sum_of_costs self.old.total (C.numbers cost.now) }
         ensures whole { IsWhole (C.numbers cost.now) }
         ensures arcs { self.new.rows.arcs ≡ self.old.rows.arcs }
         ensures arc_room { self.new.rows.arc_room ≡ self.old.rows.arc_room }
         ensures stack { self.new.stack ≡ self.old.stack }
-        ensures frames { self.new.frames ≡ self.old.frames }
+        ensures numbers { self.new.numbers ≡ self.old.numbers }
         ensures thread { self.new.thread ≡ self.old.thread }
-        ensures index { line_index (record { func = top_number (frames_of self.old); file = at.file; line = at.line })
+        ensures index { line_index (record { func = first_number (numbers_of self.old); file = at.file; line = at.line })
             self.new.rows.lines ≡ Some result }
     {
         let place = self.row_place(at);
@@ -141,9 +129,9 @@ impl<N: Number> Track<N> {
 
     /// Where an event at this place counts: in the context of the top frame.
     #[inline(always)]
-    fn row_place(&self, at: Place) -> Place<N>
-        requires { 0 < length self.now.frames.items }
-        ensures { result ≡ record { func = top_number (frames_of self.now); file = at.file; line = at.line } }
+    fn row_place(&self, at: Place) -> Place<ContextNo>
+        requires { 0 < length self.now.numbers.items }
+        ensures { result ≡ record { func = first_number (numbers_of self.now); file = at.file; line = at.line } }
     {
         Place {
             func: self.top(),
@@ -155,9 +143,9 @@ impl<N: Number> Track<N> {
     /// Whether the row in which an event at this place counts is seen at this index, without a search.
     #[inline(always)]
     pub fn has_row_at(&self, index: usize, at: Place) -> bool
-        requires { 0 < length self.now.frames.items }
+        requires { 0 < length self.now.numbers.items }
         ensures { result ≡ true → has_line
-            (record { func = top_number (frames_of self.now); file = at.file; line = at.line }) self.now.rows.lines
+            (record { func = first_number (numbers_of self.now); file = at.file; line = at.line }) self.now.rows.lines
             ≡ true }
     {
         self.rows.is_line_at(index, self.row_place(at))
@@ -178,136 +166,117 @@ impl<N: Number> Track<N> {
         goes_on(event, top, next.func)
     }
 
-    /// Changes the stack as an event says, and leaves the frames that go. Answers whether a frame comes.
+    /// Changes the stack as an event says: each frame that goes gives its arc what it has cost since its start, and one
+    /// that comes counts as a call. It takes no memory.
     #[inline(always)]
-    pub fn change(&mut self, event: &Event, syms: &SymMap) -> bool
-        requires room { 1 ≤ self.old.stack.spare }
+    pub fn change(&mut self, event: &Event, syms: &SymMap, contexts: &mut Contexts, callers: u32)
+        requires few { callers ≤ 16 }
+        requires room { CanEnter self.old }
+        requires context_room { 1 ≤ contexts.old.room }
         requires live { 0 < length self.old.stack.frames }
         requires rooted { is_rooted (stack self.old.stack.frames) ≡ true }
-        requires stack_starts { StartWithin no_cost self.old.stack.frames }
-        requires as_many { length self.old.frames.items ≡ length self.old.stack.frames }
-        requires starts { StartWithin self.old.total (frames_of self.old) }
-        requires can { CanTell self.old.rows (closings self.old.total
-            (take (drop_count syms.now event.now (stack self.old.stack.frames)) (frames_of self.old))) }
-        ensures pushed { result ≡ is_some (change syms.now event.now (stack self.old.stack.frames)).pushed }
-        ensures stack { stack self.new.stack.frames ≡ after syms.now (stack self.old.stack.frames) event.now }
-        ensures frames { frames_of self.new
-            ≡ drop (drop_count syms.now event.now (stack self.old.stack.frames)) (frames_of self.old) }
-        ensures told { RowsAfterTellings self.old.rows (closings self.old.total
-            (take (drop_count syms.now event.now (stack self.old.stack.frames)) (frames_of self.old))) self.new.rows }
-        ensures stack_starts { StartWithin no_cost self.new.stack.frames }
-        ensures same { SameThread self.old self.new }
-        ensures frame_room { vec_capacity self.new.frames ≡ vec_capacity self.old.frames }
+        requires framed { IsFramed self.old }
+        requires numbered { AreNumbered callers contexts.old.contexts (frames_of self.old) (stack self.old.stack.frames) }
+        requires can { CanTell self.old.rows (closings_gone syms.now event.now self.old) }
+        requires calls { (arc : ArcKeyValue) → call_sum arc self.old.rows.arcs + 1 < 2 ^ 64 }
+        ensures { IsChanged callers contexts.old.contexts contexts.new.contexts syms.now event.now self.old self.new }
     {
         if self.stays(event, syms) {
-            return false;
+            return;
         }
-        self.change_frames(event, syms)
+        self.change_frames(event, syms, contexts, callers);
     }
 
     /// What `change` does where frames may go or come. It has a frame of its own, so that an event which goes on in its
     /// function needs none.
     #[inline(never)]
-    fn change_frames(&mut self, event: &Event, syms: &SymMap) -> bool
+    fn change_frames(&mut self, event: &Event, syms: &SymMap, contexts: &mut Contexts, callers: u32)
+        requires few { callers ≤ 16 }
+        requires room { CanEnter self.old }
+        requires context_room { 1 ≤ contexts.old.room }
+        requires live { 0 < length self.old.stack.frames }
+        requires rooted { is_rooted (stack self.old.stack.frames) ≡ true }
+        requires framed { IsFramed self.old }
+        requires numbered { AreNumbered callers contexts.old.contexts (frames_of self.old) (stack self.old.stack.frames) }
+        requires can { CanTell self.old.rows (closings_gone syms.now event.now self.old) }
+        requires calls { (arc : ArcKeyValue) → call_sum arc self.old.rows.arcs + 1 < 2 ^ 64 }
+        ensures { IsChanged callers contexts.old.contexts contexts.new.contexts syms.now event.now self.old self.new }
+    {
+        if let Some(entry) = self.leave(event, syms) {
+            self.enter(entry, contexts, callers);
+        }
+    }
+
+    /// Changes the stack as an event says, and counts what the frames that go have cost. How the frame was
+    /// entered that comes, whose context has no number yet.
+    fn leave(&mut self, event: &Event, syms: &SymMap) -> Option<Entry>
         requires room { 1 ≤ self.old.stack.spare }
         requires live { 0 < length self.old.stack.frames }
         requires rooted { is_rooted (stack self.old.stack.frames) ≡ true }
-        requires stack_starts { StartWithin no_cost self.old.stack.frames }
-        requires as_many { length self.old.frames.items ≡ length self.old.stack.frames }
-        requires starts { StartWithin self.old.total (frames_of self.old) }
-        requires can { CanTell self.old.rows (closings self.old.total
-            (take (drop_count syms.now event.now (stack self.old.stack.frames)) (frames_of self.old))) }
-        ensures pushed { result ≡ is_some (change syms.now event.now (stack self.old.stack.frames)).pushed }
-        ensures stack { stack self.new.stack.frames ≡ after syms.now (stack self.old.stack.frames) event.now }
-        ensures frames { frames_of self.new
-            ≡ drop (drop_count syms.now event.now (stack self.old.stack.frames)) (frames_of self.old) }
-        ensures told { RowsAfterTellings self.old.rows (closings self.old.total
-            (take (drop_count syms.now event.now (stack self.old.stack.frames)) (frames_of self.old))) self.new.rows }
-        ensures stack_starts { StartWithin no_cost self.new.stack.frames }
-        ensures same { SameThread self.old self.new }
-        ensures frame_room { vec_capacity self.new.frames ≡ vec_capacity self.old.frames }
+        requires framed { IsFramed self.old }
+        requires can { CanTell self.old.rows (closings_gone syms.now event.now self.old) }
+        ensures left { IsLeft syms.now event.now self.old self.new }
+        ensures entry { result ≡ pushed_entry (change syms.now event.now (stack self.old.stack.frames)).pushed }
     {
-        let mut pushes = Pushes { any: false };
-        self.stack.after(event, syms, &Cost::ZERO, &mut pushes);
-        let kept = kept_of(self.stack.depth(), pushes.any);
-        self.leave(kept);
-        pushes.any
+        let pushed = tell(
+            &mut self.stack,
+            &mut self.rows,
+            &self.numbers,
+            event,
+            syms,
+            &self.total,
+        );
+        let kept = count_kept(self.stack.depth(), pushed.is_some());
+        self.numbers.truncate(kept);
+        pushed
     }
 
-    /// Leaves frames from the top down until so many are left. Each gives its arc what it has cost since its start.
-    fn leave(&mut self, kept: usize)
-        requires deep { kept ≤ length self.old.frames.items }
-        requires starts { StartWithin self.old.total (frames_of self.old) }
-        requires can { CanTell self.old.rows
-            (closings self.old.total (take (length self.old.frames.items - kept) (frames_of self.old))) }
-        ensures frames { frames_of self.new ≡ drop (length self.old.frames.items - kept) (frames_of self.old) }
-        ensures told { RowsAfterTellings self.old.rows
-            (closings self.old.total (take (length self.old.frames.items - kept) (frames_of self.old))) self.new.rows }
-        ensures stack { self.new.stack ≡ self.old.stack }
-        ensures same { SameThread self.old self.new }
-        ensures frame_room { vec_capacity self.new.frames ≡ vec_capacity self.old.frames }
-    {
-        'frames: while self.frames.len() > kept {
-            if let Some(frame) = self.frames.pop() {
-                give(&mut self.rows, &frame, &self.total);
-            }
-        }
-    }
-
-    /// Enters a frame whose context has this number, from the top frame at this place.
-    pub fn enter(&mut self, at: Place, number: N)
-        requires live { 0 < length self.old.frames.items }
-        requires room { length self.old.frames.items < vec_capacity self.old.frames }
+    /// Enters a frame, in the context that it comes to from the top one.
+    fn enter(&mut self, entry: Entry, contexts: &mut Contexts, callers: u32)
+        requires few { callers ≤ 16 }
+        requires live { 0 < length self.old.numbers.items }
+        requires room { length self.old.numbers.items < vec_capacity self.old.numbers }
+        requires context_room { 1 ≤ contexts.old.room }
+        requires known { (first_number (numbers_of self.old)).0 < length contexts.old.contexts }
         requires arc_room { 1 ≤ self.old.rows.arc_room }
         requires calls { (arc : ArcKeyValue) → call_sum arc self.old.rows.arcs + 1 < 2 ^ 64 }
-        ensures frames { frames_of self.new ≡ record {
-          func = N.number number;
-          from = Some (entering_arc at (top_number (frames_of self.old)) (N.number number));
-          kind = Jump;
-          start = self.old.total;
-        } ∷ frames_of self.old }
-        ensures told { RowsAfterTellings self.old.rows (Pushed (entering_arc at (top_number (frames_of self.old)) (N.number number)) ∷ [])
-            self.new.rows }
-        ensures stack { self.new.stack ≡ self.old.stack }
-        ensures same { SameThread self.old self.new }
+        ensures { IsEntered callers entry contexts.old.contexts contexts.new.contexts self.old self.new }
     {
-        let arc = ArcKey {
-            caller: self.top(),
-            file: at.file,
-            line: at.line,
-            callee: number,
-        };
-        self.rows.count_call(&arc);
-        self.frames
-            .push(Entered {
-                func: number,
-                from: Some(arc),
-                kind: Kind::Jump,
-                start: self.total,
-            })
-            .unwrap();
+        let caller = self.top();
+        let beneath = contexts.context(caller);
+        let callee = contexts.number_of(beneath.entering(entry.func, callers as usize + 1));
+        self.rows.count_call(&ArcKey {
+            caller,
+            file: entry.file,
+            line: entry.line,
+            callee,
+        });
+        self.numbers.push(callee).unwrap();
     }
 
     /// Adds to rows what the open frames have cost since their starts, without a list of them.
-    fn add_open(&self, rows: &mut Tables<N>) -> Result<(), OutOfMemory>
-        requires starts { StartWithin self.now.total self.now.frames.items }
+    fn add_open(&self, rows: &mut Tables<ContextNo>) -> Result<(), OutOfMemory>
+        requires framed { IsFramed self.now }
+        requires starts { StartWithin self.now.total (frames_of self.now) }
         requires fits { (kind : ℕ) (arc : ArcKeyValue) → arc_sum kind arc rows.old.arcs
-            + open_sum kind self.now.total arc self.now.frames.items < 2 ^ 64 }
+            + open_sum kind self.now.total arc (frames_of self.now) < 2 ^ 64 }
         ensures lines { OnOk result (rows.new.lines ≡ rows.old.lines) }
         ensures stands { OnOk result ((additions : List ArcRowValue) → ArcsStandFor rows.old.arcs additions
-            → ArcsStandFor rows.new.arcs (additions ++ rows_of_tellings (closings self.now.total self.now.frames.items))) }
+            → ArcsStandFor rows.new.arcs
+            (additions ++ rows_of_tellings (closings self.now.total (frames_of self.now)))) }
     {
-        'frames: for frame in &self.frames {
-            if let Some(arc) = frame.arc() {
-                rows.reserve()?;
-                rows.add_arc(&arc, &frame.cost(&self.total));
-            }
-        }
-        Ok(())
+        let mut sink = Opening {
+            rows,
+            numbers: &self.numbers,
+            memory: Ok(()),
+        };
+        self.stack.tell_open(&self.total, &mut sink);
+        sink.memory
     }
 
     /// The rows since the last cut, the costs of open frames counted in.
-    pub fn rows(&self) -> Result<TableRows<N>, OutOfMemory>
+    pub fn rows(&self) -> Result<TableRows<ContextNo>, OutOfMemory>
+        requires framed { IsFramed self.now }
         requires starts { StartWithin self.now.total (frames_of self.now) }
         requires lines { (kind : ℕ) (place : PlaceValue) → line_sum kind place self.now.rows.lines < 2 ^ 64 }
         requires arcs { (kind : ℕ) (arc : ArcKeyValue) → arc_sum kind arc self.now.rows.arcs
@@ -317,7 +286,7 @@ impl<N: Number> Track<N> {
         ensures whole_lines { IfOk result (λ rows. All (λ row. IsWhole row.cost) rows.lines) }
         ensures whole_arcs { IfOk result (λ rows. All (λ row. IsWhole row.cost) rows.arcs) }
     {
-        if self.frames.is_empty() {
+        if self.numbers.is_empty() {
             return self.rows.sorted();
         }
         let mut all = Tables::new(self.alloc);
@@ -328,24 +297,22 @@ impl<N: Number> Track<N> {
 
     /// Has all rows count from 0, and the open frames start anew.
     pub fn cut(&mut self)
+        requires framed { IsFramed self.old }
         ensures frames { frames_of self.new ≡ restarted_frames self.old.total (frames_of self.old) }
+        ensures framed { IsFramed self.new }
         ensures lines { self.new.rows.lines ≡ cleared_lines self.old.rows.lines }
         ensures arcs { self.new.rows.arcs ≡ cleared_arcs self.old.rows.arcs }
-        ensures line_room { self.new.rows.line_room ≡ self.old.rows.line_room }
-        ensures arc_room { self.new.rows.arc_room ≡ self.old.rows.arc_room }
-        ensures stack { self.new.stack ≡ self.old.stack }
+        ensures stack { stack self.new.stack.frames ≡ stack self.old.stack.frames }
         ensures same { SameThread self.old self.new }
-        ensures frame_room { vec_capacity self.new.frames ≡ vec_capacity self.old.frames }
+        ensures room { IsRoomy self.old → IsRoomy self.new }
     {
         self.rows.clear();
-        'frames: for place in 0..self.frames.len() {
-            self.frames[place].restart(&self.total);
-        }
+        self.stack.restart(&self.total, &mut Unheard);
     }
 }
 
-/// How many frames an event has left, of so many after it, where one may have come.
-fn kept_of(depth: usize, pushed: bool) -> usize
+/// How many frames an event keeps, of so many after it, where one may have come.
+fn count_kept(depth: usize, pushed: bool) -> usize
     ensures { result ≡ depth - (if pushed then 1 else 0) }
 {
     if pushed {
@@ -355,13 +322,34 @@ fn kept_of(depth: usize, pushed: bool) -> usize
     }
 }
 
-/// Adds to the arc of a frame what it has cost since its start.
-fn give<N: Number>(rows: &mut Tables<N>, frame: &Entered<N>, total: &Cost)
-    requires starts { AllZip (λ t s. s ≤ t) total.now frame.now.start }
-    requires can { CanTell rows.old (closing total.now frame.now) }
-    ensures told { RowsAfterTellings rows.old (closing total.now frame.now) rows.new }
+/// Changes a stack as an event says, and counts what the frames that go have cost. How the one was entered that comes.
+fn tell(
+    calls: &mut ShadowStack,
+    rows: &mut Tables<ContextNo>,
+    numbers: &[ContextNo],
+    event: &Event,
+    syms: &SymMap,
+    total: &Cost,
+) -> Option<Entry>
+    requires room { 1 ≤ calls.old.spare }
+    requires live { 0 < length calls.old.frames }
+    requires starts { StartWithin total.now calls.old.frames }
+    requires entered { AreOpen calls.old.frames (reverse numbers.now) }
+    requires can { CanTell rows.old (closings total.now (take (drop_count syms.now event.now (stack calls.old.frames))
+        (numbered_frames calls.old.frames (reverse numbers.now)))) }
+    ensures frames { calls.new.frames ≡ frames_after syms.now total.now calls.old.frames event.now }
+    ensures stacked { stack calls.new.frames ≡ after syms.now (stack calls.old.frames) event.now }
+    ensures starts { StartWithin total.now calls.new.frames }
+    ensures told { RowsAfterTellings rows.old
+        (closings total.now (take (drop_count syms.now event.now (stack calls.old.frames))
+        (numbered_frames calls.old.frames (reverse numbers.now)))) rows.new }
+    ensures pushed { result ≡ pushed_entry (change syms.now event.now (stack calls.old.frames)).pushed }
 {
-    if let Some(arc) = frame.arc() {
-        rows.add_arc(&arc, &frame.cost(total));
-    }
+    let mut sink = Closing {
+        rows,
+        numbers,
+        pushed: None,
+    };
+    calls.after(event, syms, total, &mut sink);
+    sink.pushed
 }

@@ -2,9 +2,9 @@ use Rattle.std.proofs.Common.{◌≡◌, ℕ, List, true, ap, subst, sym}
 use Rattle.event_costs.specs.Keys.{Place}
 use Rattle.arc_costs.specs.Lines.{has_line}
 use Rattle.ctx_rows.specs.Contexts.{Context}
-use Rattle.ctx_rows.specs.States.{contexts_after, top_number}
-use Rattle.ctx_costs.specs.inner.Tracks.{IsKept, frames_of}
-use Rattle.ctx_costs.proofs.NoteLemmas.{plain_room}
+use Rattle.ctx_rows.specs.States.{contexts_after}
+use Rattle.ctx_costs.specs.inner.Frames.{first_number}
+use Rattle.ctx_costs.specs.inner.Tracks.{IsKept, numbers_of}
 use Rattle.ctx_costs.proofs.StepLemmas as step
 use Rattle.ctx_costs.proofs.StepLemmas.{Noted}
 use Rattle.ctx_costs.proofs.noting.note_plain.Goals as goal
@@ -34,28 +34,30 @@ noted c callers contexts kept = record {
     arcs = c.count.ensures.arcs;
     arc_room = c.count.ensures.arc_room;
     stack = c.count.ensures.stack;
-    frames = c.count.ensures.frames;
+    numbers = c.count.ensures.numbers;
     thread = c.count.ensures.thread;
   };
 }
 
 pub returns-clause-track : goal.returns-clause-track
 returns-clause-track c = λ callers contexts kept.
-    step.plain_track (noted (goal.at.returns-clause-track c).After-count callers contexts kept) c.requires.stays
+    let n = noted (goal.at.returns-clause-track c).After-count callers contexts kept in
+    step.new_track n contexts c.count.new.self (step.plain_done n c.requires.stays)
 
 pub returns-clause-contexts : goal.returns-clause-contexts
 returns-clause-contexts c = λ callers contexts. sym (ap (contexts_after callers contexts) c.requires.stays)
 
 pub returns-clause-kept : goal.returns-clause-kept
 returns-clause-kept c = λ callers contexts kept.
-    step.plain_kept (noted (goal.at.returns-clause-kept c).After-count callers contexts kept) c.requires.stays
+    let n = noted (goal.at.returns-clause-kept c).After-count callers contexts kept in
+    step.new_kept n contexts c.count.new.self (step.plain_done n c.requires.stays)
 
 pub returns-clause-room : goal.returns-clause-room
 returns-clause-room c =
-    plain_room c.args.track.now c.count.new.self _ c.count.ensures.stack c.count.ensures.frames
+    step.plain_room c.args.track.now c.count.new.self _ c.count.ensures.stack c.count.ensures.numbers
     c.count.ensures.line_room
     (subst (λ (p : Place). has_line (record {
-      func = top_number (frames_of c.args.track.now);
+      func = first_number (numbers_of c.args.track.now);
       file = p.file;
       line = p.line;
     }) c.args.track.now.rows.lines ≡ true) (sym c.place.ensures.place) c.requires.there)

@@ -14,7 +14,7 @@ returns-clause-ok c = record {
   track = c.in_ok-track.ensures.track
       ∙ ap (first_track c.args.thread c.args.func)
       (c.next_number-number.ensures ∙ ap (number c.args.contexts.now.contexts) c.of-context.ensures.listed);
-  starts = c.in_ok-track.ensures.starts;
+  framed = c.in_ok-track.ensures.framed;
   roomy = c.in_ok-track.ensures.room;
   contexts = c.number_of.ensures.contexts ∙ ap (with_context c.args.contexts.now.contexts) c.of-context.ensures.listed;
   room = c.number_of.ensures.room;

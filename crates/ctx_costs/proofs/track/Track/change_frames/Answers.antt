@@ -1,46 +1,44 @@
-use Rattle.std.proofs.Common.{◌≡◌, ◌-◌, ℕ, ap, drop, is_some, length, refl, subst, sym, take, ◌∙◌}
-use Rattle.shadow_stack.specs.Changes.{change, drop_count}
-use Rattle.shadow_stack.specs.Frames.{closings, stack}
-use Rattle.recorder.specs.inner.Tellers.{CanTell, RowsAfterTellings}
-use Rattle.ctx_costs.specs.inner.Tracks.{frames_of}
-use Rattle.ctx_costs.proofs.PushLemmas.{left_of, pushes_told}
+use Rattle.ctx_costs.proofs.ChangedLemmas as changed
 use Rattle.ctx_costs.proofs.track.Track.change_frames.Goals as goal
-use Rattle.ctx_costs.proofs.track.Track.change_frames.Goals.{After-after, After-kept_of-kept}
 
--- whether a frame comes, as the stack has told
-comes : (g : _) (c : After-after g)
-    → c.after.new.sink.any
-    ≡ is_some (change c.args.syms.now c.args.event.now (stack c.args.self.now.stack.frames)).pushed
-comes g c =
-    pushes_told c.args.syms.now c.args.event.now c.args.self.now.stack.frames _ c.after.new.sink refl c.requires.rooted
-    c.after.ensures.told
-
--- how many frames go
-left : (g : _) (c : After-kept_of-kept g)
-    → length c.args.self.now.frames.items - c.kept_of-kept.result
-    ≡ drop_count c.args.syms.now c.args.event.now (stack c.args.self.now.stack.frames)
-left g c =
+pub enter-requires : goal.enter-requires
+enter-requires c =
     let b = c.args.self.now in
-    left_of c.args.syms.now c.args.event.now b.stack.frames c.after.new.self.frames b.frames.items
-    c.after.new.sink.any c.depth.result c.kept_of-kept.result c.after.ensures.stack
-    (comes g (goal.at.After-kept_of-kept g c).After-after) c.depth.ensures c.kept_of-kept.ensures c.requires.as_many
+    let syms = c.args.syms.now in
+    let cs = c.args.contexts.now.contexts in
+    let e = c.args.event.now in
+    let goes = c.in-Some.ensures.left in
+    let is = c.in-Some.ensures.entry in
+    let p = changed.comes syms e b.stack.frames c.in-Some.entry c.requires.rooted is in
+    let left = c.leave.new.self in
+    record {
+      few = c.requires.few;
+      live = changed.left_live c.args.callers cs syms e b left c.requires.framed goes p c.in-Some.entry is c.requires.numbered;
+      room =
+          changed.left_room c.args.callers cs syms e b left c.requires.framed goes p c.in-Some.entry is c.requires.numbered
+          c.requires.room.numbers;
+      context_room = c.requires.context_room;
+      known = changed.left_known c.args.callers cs syms e b left c.requires.framed goes p c.in-Some.entry is c.requires.numbered;
+      arc_room =
+          changed.left_arc_room c.args.callers cs syms e b left c.requires.framed goes p c.in-Some.entry is c.requires.numbered
+          c.requires.room.arcs;
+      calls =
+          changed.left_calls c.args.callers cs syms e b left c.requires.framed goes p c.in-Some.entry is c.requires.numbered
+          c.requires.calls;
+    }
 
-pub leave-requires-clause-can : goal.leave-requires-clause-can
-leave-requires-clause-can g c =
+pub returns-in-Some : goal.returns-in-Some
+returns-in-Some c =
     let b = c.args.self.now in
-    subst (λ (n : ℕ). CanTell b.rows (closings b.total (take n (frames_of b))))
-    (sym (left g (goal.at.leave-requires-clause-can g c).After-kept_of-kept)) c.requires.can
+    let is = c.in-Some.ensures.entry in
+    let p = changed.comes c.args.syms.now c.args.event.now b.stack.frames c.in-Some.entry c.requires.rooted is in
+    changed.new_changed c.args.callers c.args.contexts.now.contexts c.args.syms.now c.args.event.now b c.leave.new.self
+    c.requires.framed c.in-Some.ensures.left p c.in-Some.entry is c.requires.numbered c.enter.new.contexts.contexts
+    c.enter.new.self c.enter.ensures
 
-pub returns-clause-pushed : goal.returns-clause-pushed
-returns-clause-pushed g c = comes g (goal.at.returns-clause-pushed g c).After-after
-
-pub returns-clause-frames : goal.returns-clause-frames
-returns-clause-frames g c =
-    c.leave.ensures.frames
-    ∙ ap (λ n. drop n (frames_of c.args.self.now)) (left g (goal.at.returns-clause-frames g c).After-kept_of-kept)
-
-pub returns-clause-told : goal.returns-clause-told
-returns-clause-told g c =
+pub returns-in_default : goal.returns-in_default
+returns-in_default c =
     let b = c.args.self.now in
-    subst (λ (n : ℕ). RowsAfterTellings b.rows (closings b.total (take n (frames_of b))) c.leave.new.self.rows)
-    (left g (goal.at.returns-clause-told g c).After-kept_of-kept) c.leave.ensures.told
+    changed.left_changed c.args.callers c.args.contexts.now.contexts c.args.syms.now c.args.event.now b c.leave.new.self
+    c.requires.framed c.in_default.ensures.left
+    (changed.none_comes c.args.syms.now c.args.event.now b.stack.frames c.requires.rooted c.in_default.ensures.entry)

@@ -1,55 +1,31 @@
-use Rattle.std.proofs.Common.{◌∙◌, ◌<◌, arith, length, sym}
-use Rattle.arc_costs.specs.Contents.{Contents}
-use Rattle.ctx_costs.proofs.LeaveLemmas.{can_below, can_give, last_is, more_left, none_left, rest_of_left, starts_below}
-use Rattle.ctx_costs.proofs.LeaveLemmas.{told_all, top_start}
+use Rattle.std.proofs.Common.{◌-◌, ◌∙◌, List, ap, if◌then◌else◌, refl, reverse, subst, take}
+use Rattle.event_costs.specs.declared.numbers.FuncId.{FuncId}
+use Rattle.shadow_stack.specs.Frames.{closings}
+use Rattle.recorder.specs.inner.Tellers.{RowsAfterTellings}
+use Rattle.ctx_costs.specs.inner.Frames.{numbered_frames}
+use Rattle.ctx_costs.specs.inner.Tracks.{count_gone}
+use Rattle.ctx_costs.proofs.ChangedLemmas.{numbers_kept}
 use Rattle.ctx_costs.proofs.track.Track.leave.Goals as goal
 
-pub give-requires-clause-starts : goal.give-requires-clause-starts
-give-requires-clause-starts g c =
-    let before = c.frames.self.frames.items in
-    let left = c.pop.new.self.items in
-    let is = last_is before left c.pop.result c.in-Some.frame c.pop.ensures.items c.in-Some.is in
-    top_start c.frames.self.total before left c.in-Some.frame c.args.kept is
-    (omega (arith, c.frames-test.true, c.len.ensures))
-    c.frames.invariant.starts
-
-pub give-requires-clause-can : goal.give-requires-clause-can
-give-requires-clause-can g c =
-    let before = c.frames.self.frames.items in
-    let left = c.pop.new.self.items in
-    let is = last_is before left c.pop.result c.in-Some.frame c.pop.ensures.items c.in-Some.is in
-    can_give c.frames.self.total before left c.in-Some.frame c.args.kept is
-    (omega (arith, c.frames-test.true, c.len.ensures))
-    c.frames.self.rows c.frames.invariant.can
-
-pub frames-preserved-in-Some : goal.frames-preserved-in-Some
-frames-preserved-in-Some g c =
-    let total = c.frames.self.total in
-    let before = c.frames.self.frames.items in
-    let left = c.pop.new.self.items in
-    let kept = c.args.kept in
-    let is = last_is before left c.pop.result c.in-Some.frame c.pop.ensures.items c.in-Some.is in
-    let less : kept < length before = omega (arith, c.frames-test.true, c.len.ensures) in
+pub returns-clause-left : goal.returns-clause-left
+returns-clause-left c =
+    let b = c.args.self.now in
+    let syms = c.args.syms.now in
+    let e = c.args.event.now in
     record {
-      deep = more_left total before left c.in-Some.frame kept is less;
-      starts = starts_below total before left c.in-Some.frame kept is less c.frames.invariant.starts;
-      can = can_below total before left c.in-Some.frame kept is less c.frames.self.rows c.give.new.rows
-          c.frames.invariant.can c.give.ensures.told;
-      frames = sym (rest_of_left before left c.in-Some.frame kept is less) ∙ c.frames.invariant.frames;
-      told = λ (new : Contents) more. c.frames.invariant.told new
-          (told_all total before left c.in-Some.frame kept is less c.frames.self.rows c.give.new.rows new
-          c.give.ensures.told more);
-      stack = c.frames.invariant.stack;
-      same = record {
-        alloc = c.frames.invariant.same.alloc;
-        thread = c.frames.invariant.same.thread;
-        total = c.frames.invariant.same.total;
-      };
-      room = c.pop.ensures.capacity ∙ c.frames.invariant.room;
+      frames = c.tell-pushed.ensures.frames;
+      numbers =
+          ap reverse c.truncate.ensures.items
+          ∙ numbers_kept syms e b c.requires.rooted c.requires.framed c.count_kept-kept.result c.depth.result
+          c.tell-pushed.result c.tell-pushed.new.calls.frames
+          (c.count_kept-kept.ensures ∙ ap (λ some. c.depth.result - (if some then 1 else 0)) c.is_some.ensures)
+          c.depth.ensures c.tell-pushed.ensures.stacked c.tell-pushed.ensures.pushed;
+      told =
+          subst (λ (ns : List FuncId). RowsAfterTellings b.rows
+          (closings b.total (take (count_gone syms e b) (numbered_frames b.stack.frames (reverse ns)))) c.tell-pushed.new.rows)
+          c.deref.ensures.value c.tell-pushed.ensures.told;
+      stacked = c.tell-pushed.ensures.stacked;
+      starts = c.tell-pushed.ensures.starts;
+      same = record { alloc = refl; thread = refl; total = refl };
+      capacity = c.truncate.ensures.capacity;
     }
-
-pub returns-clause-told : goal.returns-clause-told
-returns-clause-told g c =
-    c.frames.invariant.told c.frames.self.rows
-    (none_left c.frames.self.total c.frames.self.rows c.frames.self.frames.items c.args.kept
-    (omega (arith, c.frames-test.false, c.len.ensures)))

@@ -9,13 +9,16 @@ use Rattle.recorder.specs.inner.TellerLaws.{arc_sum-append, call_sum-append}
 use Rattle.shadow_stack.specs.Frames.{closings}
 use Rattle.shadow_stack.specs.declared.frame.Frame.{Frame}
 use Rattle.ctx_costs.proofs.Others.{closings_calls, closings_costs}
-use Rattle.ctx_costs.specs.inner.Tracks.{track_of}
+use Rattle.ctx_costs.specs.inner.Frames.{numbered_frames}
+use Rattle.ctx_costs.specs.inner.Tracks.{frames_of, track_of}
+use Rattle.ctx_costs.proofs.NumberedLemmas.{none_numbered}
 use Rattle.ctx_rows.specs.Tracks.{account_of}
-use Rattle.ctx_costs.proofs.OpenLemmas.{cut_of, open_items, own_sums, starts_items}
+use Rattle.ctx_costs.proofs.OpenLemmas.{cut_of}
+use Rattle.ctx_costs.proofs.OpeningLemmas.{own_sums}
 use Rattle.ctx_costs.proofs.track.Track.rows.Goals as goal
 
 pub merge-requires-clause-line_costs : goal.merge-requires-clause-line_costs
-merge-requires-clause-line_costs g c event place =
+merge-requires-clause-line_costs c event place =
     let b = c.args.self.now in
     omega (
       arith,
@@ -25,7 +28,7 @@ merge-requires-clause-line_costs g c event place =
     )
 
 pub merge-requires-clause-arc_costs : goal.merge-requires-clause-arc_costs
-merge-requires-clause-arc_costs g c event arc =
+merge-requires-clause-arc_costs c event arc =
     let b = c.args.self.now in
     let counted = c.in_ok-sorted.ensures.arcs_stand b.rows.arcs (own_sums b.rows.arcs) in
     omega (
@@ -36,17 +39,13 @@ merge-requires-clause-arc_costs g c event arc =
     )
 
 pub merge-requires-clause-calls : goal.merge-requires-clause-calls
-merge-requires-clause-calls g c arc =
+merge-requires-clause-calls c arc =
     let b = c.args.self.now in
     let counted = c.in_ok-sorted.ensures.arcs_stand b.rows.arcs (own_sums b.rows.arcs) in
     omega (arith, ap (call_sum arc) c.new-all.ensures.arcs, counted.calls arc, c.requires.calls arc)
 
-pub add_open-requires-clause-starts : goal.add_open-requires-clause-starts
-add_open-requires-clause-starts g c =
-    starts_items c.args.self.now.total c.args.self.now.frames.items c.requires.starts
-
 pub add_open-requires-clause-fits : goal.add_open-requires-clause-fits
-add_open-requires-clause-fits g c kind arc =
+add_open-requires-clause-fits c kind arc =
     let b = c.args.self.now in
     let counted = c.in_ok-sorted.ensures.arcs_stand b.rows.arcs (own_sums b.rows.arcs) in
     let merged = c.in_ok-merge.ensures.arcs_stand [] (record {
@@ -57,15 +56,14 @@ add_open-requires-clause-fits g c kind arc =
       arith,
       merged.costs kind arc,
       counted.costs kind arc,
-      open_items kind b.total arc b.frames.items,
       c.requires.arcs kind arc,
     )
 
 pub returns-clause-rows : goal.returns-clause-rows
-returns-clause-rows g c =
+returns-clause-rows c =
     let b = c.args.self.now in
-    let items = b.frames.items in
-    let added : List ArcRow = rows_of_tellings (closings b.total items) in
+    let open_frames = frames_of b in
+    let added : List ArcRow = rows_of_tellings (closings b.total open_frames) in
     let counted = c.in_ok-sorted.ensures.arcs_stand b.rows.arcs (own_sums b.rows.arcs) in
     let merged = c.in_ok-merge.ensures.arcs_stand [] (record {
       calls = λ key. ap (call_sum key) c.new-all.ensures.arcs;
@@ -83,8 +81,7 @@ returns-clause-rows g c =
       arc_sum-append kind arc c.merge.new.self.arcs added,
       merged.costs kind arc,
       counted.costs kind arc,
-      closings_costs kind b.total arc items (starts_items b.total items c.requires.starts),
-      open_items kind b.total arc items,
+      closings_costs kind b.total arc open_frames c.requires.starts,
     ))
     (λ arc. omega (
       arith,
@@ -92,20 +89,22 @@ returns-clause-rows g c =
       call_sum-append arc c.merge.new.self.arcs added,
       merged.calls arc,
       counted.calls arc,
-      closings_calls b.total arc items,
+      closings_calls b.total arc open_frames,
     ))
     c.sorted-3.ensures.lines c.sorted-3.ensures.arcs c.sorted-3.ensures.lines_rise c.sorted-3.ensures.arcs_rise
     c.sorted-3.ensures.lines_stand c.sorted-3.ensures.arcs_stand
 
 -- where no frame is open
 pub returns-then-is_empty-clause-rows : goal.returns-then-is_empty-clause-rows
-returns-then-is_empty-clause-rows g c =
+returns-then-is_empty-clause-rows c =
     let b = c.args.self.now in
-    let count : length b.frames.items ≡ 0 = grind (arith, nat_tests, c.is_empty.ensures, c.if-is_empty.true) in
-    let none = nil_from_length b.frames.items count in
+    let count : length b.numbers.items ≡ 0 = grind (arith, nat_tests, c.is_empty.ensures, c.if-is_empty.true) in
+    let none : frames_of b ≡ []
+    = ap (λ ns. numbered_frames b.stack.frames (reverse ns)) (nil_from_length b.numbers.items count)
+    ∙ none_numbered b.stack.frames in
     cut_of c.sorted.result (account_of (track_of b)) b.rows.lines b.rows.arcs
     (λ kind place. refl)
-    (λ kind arc. omega (arith, ap (λ (fs : List Frame). open_sum kind b.total arc (reverse fs)) none))
+    (λ kind arc. omega (arith, ap (λ (fs : List Frame). open_sum kind b.total arc fs) none))
     (λ arc. refl)
     c.sorted.ensures.lines c.sorted.ensures.arcs c.sorted.ensures.lines_rise c.sorted.ensures.arcs_rise
     c.sorted.ensures.lines_stand c.sorted.ensures.arcs_stand

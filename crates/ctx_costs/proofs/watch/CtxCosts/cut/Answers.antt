@@ -3,7 +3,7 @@ use Rattle.ctx_costs.proofs.Others.{any-map, true_false}
 use Rattle.ctx_rows.specs.States.{CtxState, after_part, is_track_of, knows}
 use Rattle.ctx_costs.specs.inner.Tracks.{Book, IsPlaceOf, track_of}
 use Rattle.ctx_costs.proofs.ReadyLemmas.{is_there}
-use Rattle.ctx_costs.proofs.SeenLemmas.{as_ready, cut_state, cut_watch, ready_of, room_still}
+use Rattle.ctx_costs.proofs.SeenLemmas.{as_ready, cut_state, cut_watch, ready_of}
 use Rattle.ctx_costs.proofs.watch.CtxCosts.cut.Goals as goal
 
 pub unreachable-requires : goal.unreachable-requires
@@ -26,9 +26,7 @@ invariant_of-self c =
     c.self.invariant c.args.thread c.in-Some.place at.0 at.1 c.index_mut.result.now _ c.index_mut.ensures.value
     c.cut.new.self
     c.cut.ensures.frames c.cut.ensures.lines c.cut.ensures.arcs c.cut.ensures.stack c.cut.ensures.same
-    (room_still c.index_mut.result.now c.cut.new.self c.cut.ensures.frames c.cut.ensures.frame_room
-    c.cut.ensures.line_room
-    c.cut.ensures.arc_room c.cut.ensures.stack)
+    c.cut.ensures.framed c.cut.ensures.room
 
 pub returns : goal.returns
 returns c =
@@ -41,4 +39,5 @@ returns c =
     c.self.inside.roomy c.self.invariant) c.args.thread c.in-Some.place at.0 at.1 c.index_mut.result.now _ c.index_mut.ensures.value
     c.cut.new.self
     c.cut.ensures.frames c.cut.ensures.lines c.cut.ensures.arcs c.cut.ensures.stack c.cut.ensures.same
+    c.cut.ensures.framed
     ∙ ap (λ (w : CtxState). after_part w c.args.thread) c.self.view_is

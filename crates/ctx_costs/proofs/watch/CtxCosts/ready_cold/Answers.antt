@@ -2,7 +2,7 @@ use Rattle.std.proofs.Common.{◌≡◌, ◌∙◌, List, Some, ap, get_or, map,
 use Rattle.event_costs.specs.Keys.{Place}
 use Rattle.ctx_rows.specs.Contexts.{Context}
 use Rattle.ctx_rows.specs.States.{CtxState, after_ready}
-use Rattle.ctx_costs.specs.inner.Tracks.{Book, IsPlaceOf, IsRoomy, track_of}
+use Rattle.ctx_costs.specs.inner.Tracks.{Book, IsFramed, IsPlaceOf, IsRoomy, track_of}
 use Rattle.ctx_costs.proofs.ReadyLemmas.{begun_state, begun_watch, given_err, is_there, known_state, ready_watch}
 use Rattle.ctx_costs.proofs.ReadyLemmas.{reserved_watch, still_state, still_watch}
 use Rattle.ctx_costs.proofs.SeenLemmas.{as_ready, ready_of}
@@ -21,7 +21,7 @@ invariant_of-self-in_err-reserve-2 c =
     c.self.inside.roomy
     c.self.invariant c.args.thread c.in-Some.place c.reserve-in-Some.new.self at.0 at.1
     (λ d. c.reserve-in-Some.ensures.track ∙ ap track_of (same d))
-    (λ d. c.reserve-in-Some.ensures.stack ∙ ap (λ (b : Book). b.stack.frames) (same d)) c.reserve.ensures.contexts
+    (λ d was. c.reserve-in-Some.ensures.framed (subst IsFramed (sym (same d)) was)) c.reserve.ensures.contexts
     c.in_ok-reserve.ensures.room
     (λ d was. c.reserve-in-Some.ensures.room_kept (subst IsRoomy (sym (same d)) was))
 
@@ -39,7 +39,7 @@ returns-in_err-reserve-2-clause-err c =
     (as_ready c.self.inside.callers c.self.inside.contexts c.self.inside.tracks.items c.self.inside.stepped
     c.self.inside.roomy c.self.invariant) c.args.thread c.in-Some.place c.reserve-in-Some.new.self at.0 at.1
     (λ d. c.reserve-in-Some.ensures.track ∙ ap track_of (same d))
-    (λ d. c.reserve-in-Some.ensures.stack ∙ ap (λ (b : Book). b.stack.frames) (same d)) c.reserve.ensures.contexts
+    (λ d was. c.reserve-in-Some.ensures.framed (subst IsFramed (sym (same d)) was)) c.reserve.ensures.contexts
     c.in_ok-reserve.ensures.room
     ∙ c.self.view_is)
 
@@ -56,7 +56,7 @@ invariant_of-self-in-Some c =
     (as_ready c.self.inside.callers c.self.inside.contexts c.self.inside.tracks.items c.self.inside.stepped
     c.self.inside.roomy c.self.invariant) c.args.thread c.in-Some.place c.reserve-in-Some.new.self at.0 at.1
     (λ d. c.reserve-in-Some.ensures.track ∙ ap track_of (same d))
-    (λ d. c.reserve-in-Some.ensures.stack ∙ ap (λ (b : Book). b.stack.frames) (same d)) c.reserve.ensures.contexts
+    (λ d was. c.reserve-in-Some.ensures.framed (subst IsFramed (sym (same d)) was)) c.reserve.ensures.contexts
     c.in_ok-reserve.ensures.room
     c.in_ok-reserve-2.ensures.room
 
@@ -73,7 +73,7 @@ returns-in-Some-clause-ok c =
     (as_ready c.self.inside.callers c.self.inside.contexts c.self.inside.tracks.items c.self.inside.stepped
     c.self.inside.roomy c.self.invariant) c.args.thread c.in-Some.place c.reserve-in-Some.new.self at.0 at.1
     (λ d. c.reserve-in-Some.ensures.track ∙ ap track_of (same d))
-    (λ d. c.reserve-in-Some.ensures.stack ∙ ap (λ (b : Book). b.stack.frames) (same d)) c.reserve.ensures.contexts
+    (λ d was. c.reserve-in-Some.ensures.framed (subst IsFramed (sym (same d)) was)) c.reserve.ensures.contexts
     c.in_ok-reserve.ensures.room
     c.args.syms.now c.args.pc
     ∙ ap (λ (w : CtxState). after_ready w c.args.thread c.args.pc c.args.syms.now) c.self.view_is

@@ -51,9 +51,9 @@ note_plain-requires-clause-live c =
     c.index_mut.ensures.value
     (subst (λ (w : CtxState). 0 < length (track w c.args.event.now.thread).stack) (sym c.self.view_is) c.requires.live)
 
-pub note_plain-requires-clause-frames : goal.note_plain-requires-clause-frames
-note_plain-requires-clause-frames c =
-    let at = stands (goal.at.note_plain-requires-clause-frames c).In-Some in
+pub note_plain-requires-clause-numbers : goal.note_plain-requires-clause-numbers
+note_plain-requires-clause-numbers c =
+    let at = stands (goal.at.note_plain-requires-clause-numbers c).In-Some in
     here_framed c.self.inside.callers c.self.inside.contexts c.self.inside.contexts c.self.inside.tracks.items
     c.self.inside.roomy c.self.invariant c.args.event.now.thread c.in-Some.place at.0 at.1 c.index_mut.result.now _
     c.index_mut.ensures.value
