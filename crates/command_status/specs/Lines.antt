@@ -1,7 +1,6 @@
 -- The line that tells the user how a command ended.
-use Rattle.std.specs.Prelude.{ℕ, ◌++◌, Bool, true, false, if◌then◌else◌, ◌==◌, List, [], ◌∷◌}
+use Rattle.std.specs.Prelude.{ℕ, ◌++◌, Bool, true, false, ◌==◌, List, [], ◌∷◌}
 use Rattle.std.specs.Prelude.{codes, decimal, map}
-use Rattle.byte_text.specs.Hex.{hex}
 use Rattle.byte_text.specs.Names.{clean_name}
 use Rattle.elf_read.specs.declared.error.ElfError.{ElfError}
 use Rattle.elf_read.specs.declared.error.ElfError.TheVariants as elf
@@ -9,6 +8,8 @@ use Rattle.elf_read.specs.declared.error.Field.{Field}
 use Rattle.elf_read.specs.declared.error.Field.TheVariants as field
 use Rattle.cg_read.specs.declared.error.FormatError.{FormatError}
 use Rattle.cg_read.specs.declared.error.FormatError.TheVariants as format
+use Rattle.event_costs.specs.declared.outcome.End.TheVariants as end
+use Rattle.command_status.specs.Ends.{end_text, line_unless}
 use Rattle.command_status.specs.declared.status.Status.{Status}
 use Rattle.command_status.specs.declared.status.Status.TheVariants.{Done, Exited, Usage, ElfRefused, LoadFault}
 use Rattle.command_status.specs.declared.status.Status.TheVariants.{PutFault, OutFault, TooLong, FormatRefused}
@@ -61,7 +62,7 @@ usage = codes "usage: run or report [OPTIONS] PROG [ARGS], annotate [OPTIONS] FI
 
 unfoldable pub text_of : Status → List ℕ
 text_of Done = []
-text_of (Exited code) = codes "exited with " ++ decimal code
+text_of (Exited code) = end_text (end.Exited code)
 text_of Usage = usage
 text_of (ElfRefused error) = codes "elf refused: " ++ elf_text error
 text_of (LoadFault name) = codes "cannot load " ++ clean_name name
@@ -71,12 +72,12 @@ text_of (TooLong name len) = codes "too long: " ++ clean_name name ++ codes ", "
 text_of (FormatRefused name error) = clean_name name ++ format_text error
 text_of (SumLimit event) = codes "sum limit: event " ++ decimal event
 text_of (EventsDiffer name) = clean_name name ++ codes ": other events"
-text_of (Killed signal pc) = codes "killed by signal " ++ decimal signal ++ codes " at " ++ hex pc
-text_of (UnsupportedInstr pc word) = codes "unsupported instruction " ++ hex word ++ codes " at " ++ hex pc
-text_of (UnsupportedCall pc number) = codes "unsupported call " ++ decimal number ++ codes " at " ++ hex pc
-text_of (Budget steps) = codes "budget of " ++ decimal steps ++ codes " steps spent"
-text_of Frames = codes "4194304 frames are live"
-text_of AllWaiting = codes "all threads wait"
+text_of (Killed signal pc) = end_text (end.Killed signal pc)
+text_of (UnsupportedInstr pc word) = end_text (end.UnsupportedInstr pc word)
+text_of (UnsupportedCall pc number) = end_text (end.UnsupportedCall pc number)
+text_of (Budget steps) = end_text (end.Budget steps)
+text_of Frames = end_text end.Frames
+text_of AllWaiting = end_text end.AllWaiting
 text_of GuestFull = codes "guest memory full"
 text_of (ArgsTooLong len) = codes "arguments too long: " ++ decimal len ++ codes " bytes"
 text_of (OutOfMemory _) = codes "out of memory"
@@ -86,24 +87,7 @@ abbrev pub is_silent : Status → Bool
 is_silent Done = true
 is_silent (Exited code) = code == 0
 is_silent OutFault = true
-is_silent Usage = false
-is_silent (ElfRefused error) = false
-is_silent (LoadFault name) = false
-is_silent (PutFault name) = false
-is_silent (TooLong name len) = false
-is_silent (FormatRefused name error) = false
-is_silent (SumLimit event) = false
-is_silent (EventsDiffer name) = false
-is_silent (Killed signal pc) = false
-is_silent (UnsupportedInstr pc word) = false
-is_silent (UnsupportedCall pc number) = false
-is_silent (Budget steps) = false
-is_silent Frames = false
-is_silent AllWaiting = false
-is_silent GuestFull = false
-is_silent (ArgsTooLong len) = false
-is_silent (OutOfMemory _) = false
+is_silent _ = false
 
--- the program's name, the text and a line feed; or nothing
 unfoldable pub message_of : Status → List ℕ
-message_of status = if is_silent status then [] else codes "cgprof: " ++ text_of status ++ codes "\n"
+message_of status = line_unless (is_silent status) (text_of status)
