@@ -1,3 +1,4 @@
+pub mod HeldLemmas
 pub mod NameLemmas
 pub mod SourceLemmas
 pub mod TellsLemmas
