@@ -67,7 +67,7 @@ use Rattle.profile_cli.specs.Watching.{parts_asked}
 use Rattle.profile_cli.specs.Words.{program_of}
 use Rattle.profile_cli.proofs.OwnTextLemmas.{own_again}
 use Rattle.profile_cli.proofs.PastRunLemmas.{accepted_is}
-use Rattle.profile_cli.proofs.ReadBackLemmas.{IsReadAs, entries_small, none_first, own_files, report_on}
+use Rattle.profile_cli.proofs.ReadBackLemmas.{IsReadAs, counts_on, entries_small, none_first, own_files, report_on}
 use Rattle.profile_cli.proofs.ShortLemmas.{IsShort, StopsShort, elf_short, fault_short, load_stops, none_stops}
 use Rattle.profile_cli.proofs.ShortLemmas.{some_stops}
 use Rattle.profile_cli.proofs.SortLemmas.{IsSort, job_such, report_such}
@@ -490,6 +490,8 @@ module _ (job : Job) (positions : Positions) (view : View) (within : IsJob job) 
         };
         status_is = same ∙ found_is ∙ ap end_status b.on.end;
         report_on = report_on guest can b.on.trace makes view p own_is s.sort s.texts s.text s.report s.sorted;
+        counts = counts_on guest can b.on.trace makes view
+            (report_on guest can b.on.trace makes view p own_is s.sort s.texts s.text s.report s.sorted);
         sources = shown_over view.auto p own_is.profile s.texts own_is.files s.files;
         calls = append-nil work.calls ∙ put_calls
             ∙ ap (λ (l : Log). opening ++ puts_of put ++ l.calls) later_is

@@ -38,7 +38,7 @@ use Rattle.profile_cli.specs.Order.{program_limit, reading, run_gate, work}
 use Rattle.profile_cli.specs.OwnReport.{IsReported, reporting_own}
 use Rattle.profile_cli.specs.Reply.{IsRun, IsWaitedIn, Replies}
 use Rattle.command_steps.specs.Saying.{Says, after_line}
-use Rattle.profile_cli.specs.Watching.{output_asked, parts_asked, watch_gates}
+use Rattle.profile_cli.specs.Watching.{files_at, output_asked, parts_asked, watch_gates}
 use Rattle.profile_cli.specs.Words.{program_of}
 use Rattle.std.specs.List.{AllByRecursion}
 use Rattle.profile_cli.proofs.Others.{IsRefusal, before_line, calm_before, never_wanting, line_is_written, stays}
@@ -337,7 +337,7 @@ module _ (old new : Outside) (files : Files) (job : Job) (positions : Positions)
   certain_own : IfSome reply.met.run (IsReported old job view reply.met mid)
       → IsCertain old files (words.Report job positions view) status new
   certain_own reported =
-      decided old new job gates status reply files (IsCalm old new → IsExactReport old job positions view status new)
+      decided old new job gates status reply files (IsCalm old new → IsExactReport old job (files_at positions) view status new)
       told calm
       (λ passes program input found_is left still.
       let all = all_pass (loading job reply.met) passes in
@@ -351,7 +351,7 @@ module _ (old new : Outside) (files : Files) (job : Job) (positions : Positions)
       reply.is reported (record { status_is = found_is; leaves = left })))
     where
       by : IsCalm old new → (reply.found ≡ (OutOfMemory memory)) ⊎ IsWorked old job positions view reply.found mid
-          → IsExactReport old job positions view status new
+          → IsExactReport old job (files_at positions) view status new
       by still (inl none) = absurd (never old new job gates status reply none)
       by still (inr worked) =
           let line = line_said old new job gates status reply still in

@@ -9,11 +9,13 @@ use Rattle.command_status.specs.Numbers.{is_short}
 use Rattle.command_status.specs.declared.status.Status.{Status}
 use Rattle.command_words.specs.Request.{Request, Job, Positions, Report, View}
 use Rattle.command_words.specs.Within.{IsJob, IsWithin}
-use Rattle.profile_run.specs.Program.{CanRun}
-use Rattle.profile_cli.specs.Headline.{IsHeadline}
+use Rattle.profile_cli.specs.Counts.{IsCounted}
+use Rattle.profile_cli.specs.Headline.{Reports}
 use Rattle.profile_cli.specs.OwnReport.{reporting_own}
 use Rattle.profile_cli.specs.Reply.{Replies}
+use Rattle.profile_cli.specs.Watching.{files_at}
 use Rattle.profile_cli.proofs.PastRunLemmas.{IsWorked, exact_of, run_on}
+use Rattle.profile_cli.proofs.ReadBackLemmas.{counts_on}
 use Rattle.profile_cli.proofs.WalkLemmas.{line_written, loading_on, loading_short, work_short}
 use Rattle.profile_cli.proofs.ShortLemmas.{IsShort, fault_short}
 
@@ -48,19 +50,27 @@ reported_or_short old new job positions view status within replies contents told
         line_written replies.found status replies.err new.err replies.says w.run.run.stop.end w.run.status_is long in
         record { worked = w; status_is = said.0; written = said.1 }
 
-pub IsHeadline-replies : (old new : Outside) (asked : Request) (status : Status) → IsWithin asked
-    → Replies old asked status new → IsHeadline old asked status new
-IsHeadline-replies old new asked status within replies = λ files job positions view is told long.
+pub Reports-replies : (positions : Positions) (old new : Outside) (asked : Request) (status : Status) → IsWithin asked
+    → Replies old asked status new → Reports positions (files_at positions) old asked status new
+Reports-replies positions old new asked status within replies = λ files job view is told long.
     let reply = subst (λ a. Replies old a status new) is replies in
     let all = reported_or_short old new job positions view status (subst IsWithin is within).0 reply files told long in
     exact_of old new job positions view reply.found status reply.err all.worked all.status_is all.written
 
--- and what was run for it can be run
-pub can_report-replies : (old new : Outside) (asked : Request) (status : Status) (within : IsWithin asked)
-    (replies : Replies old asked status new) (files : Files) (job : Job) (positions : Positions) (view : View)
+-- and what was run for it can be run, and its numbers count
+pub counts-replies : (positions : Positions) (old new : Outside) (asked : Request) (status : Status)
+    (within : IsWithin asked) (replies : Replies old asked status new) (files : Files) (job : Job) (view : View)
     (is : asked ≡ Report job positions view) (told : old.files ≡ Some files) (long : is_short status ≡ false)
-    → CanRun (IsHeadline-replies old new asked status within replies files job positions view is told long).run.run.guest
-unfolding IsHeadline-replies
-can_report-replies old new asked status within replies files job positions view is told long =
+    → IsCounted old job (files_at positions) view status new
+    (Reports-replies positions old new asked status within replies files job view is told long)
+unfolding Reports-replies
+counts-replies positions old new asked status within replies files job view is told long =
     let reply = subst (λ a. Replies old a status new) is replies in
-    (reported_or_short old new job positions view status (subst IsWithin is within).0 reply files told long).worked.can
+    let worked =
+    (reported_or_short old new job positions view status (subst IsWithin is within).0 reply files told long).worked in
+    let run = worked.run.run in
+    record {
+      can = worked.can;
+      counts = counts_on run.guest worked.can run.trace (record { last = run.is.last; run = run.is.run }) view
+          worked.report_on;
+    }

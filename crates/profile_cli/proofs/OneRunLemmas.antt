@@ -22,7 +22,7 @@ use Rattle.report_laws.proofs.SameContextLemmas.{ctx_files_same}
 use Rattle.report_laws.proofs.SameFileLemmas.{plain_files, same_report}
 use Rattle.command_words.specs.Request.{AddressAndLine, Addresses, Contexts, Job, Line, Nothing, Positions, View, Waits, Watching}
 use Rattle.command_steps.specs.Annotate.{IsSortPlace, report_options}
-use Rattle.profile_cli.specs.HasRun.{HasRun, RunFiles, RunOf, files_put}
+use Rattle.profile_cli.specs.HasRun.{HasRun, RunFiles, RunOf, run_files}
 use Rattle.profile_cli.specs.Headline.{ReportOn}
 use Rattle.profile_cli.specs.Order.{program_limit}
 use Rattle.profile_cli.specs.Words.{program_of}
@@ -90,15 +90,15 @@ module _ (job : Job) (program input : List ℕ) (one other : RunOf job program i
 
   -- files that the other map makes the same of the steps
   files_by : (files : RunFiles) → files guest one.trace one.stop ≡ files again one.trace one.stop
-      → files_put files one ≡ files_put files other
+      → run_files files one ≡ run_files files other
   files_by files are =
       (λ i. files (one.guest_is i) one.trace one.stop) ∙ are
       ∙ (λ i. files (sym other.guest_is i) (traces_same i) (stops_same i))
 
-  plain_same : files_put (files_at Line) one ≡ files_put (files_at Line) other
+  plain_same : run_files (files_at Line) one ≡ run_files (files_at Line) other
   plain_same = files_by (files_at Line) (plain_files guest can other.syms same one.trace makes one.stop)
 
-  pub files_same : (watching : Watching) → files_put (files_asked watching) one ≡ files_put (files_asked watching) other
+  pub files_same : (watching : Watching) → run_files (files_asked watching) one ≡ run_files (files_asked watching) other
   files_same Nothing = plain_same
   files_same Waits = λ i.
       plain_same i
@@ -108,7 +108,7 @@ module _ (job : Job) (program input : List ℕ) (one other : RunOf job program i
   files_same Addresses =
       files_by (files_at AddressAndLine) (addr_files_same guest can other.syms same one.trace makes one.stop)
 
-  pub files_at_same : (positions : Positions) → files_put (files_at positions) one ≡ files_put (files_at positions) other
+  pub files_at_same : (positions : Positions) → run_files (files_at positions) one ≡ run_files (files_at positions) other
   files_at_same Line = plain_same
   files_at_same AddressAndLine = files_same Addresses
 
@@ -172,6 +172,6 @@ module _ (old other : Outside) (job : Job) (put more : RunFiles) (status end : S
       ∙ ap (λ (s : Stop). end_status s.end) (stops_same job second.program second.input run second.run one_can other_can)
       ∙ sym second.status_is
 
-  pub folder_same : files_put put run ≡ files_put more second.run → old.files ≡ other.files → new.files ≡ left.files
+  pub folder_same : run_files put run ≡ run_files more second.run → old.files ≡ other.files → new.files ≡ left.files
   folder_same files folders =
       first.files ∙ (λ i. option_map (with_files (files i)) (folders i)) ∙ sym second.files

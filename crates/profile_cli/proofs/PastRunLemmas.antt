@@ -35,6 +35,7 @@ use Rattle.report_laws.specs.Exact.{parts_wanted}
 use Rattle.profile_cli.proofs.Others.{same_parts}
 use Rattle.command_status.specs.Ends.{end_status}
 use Rattle.command_status.specs.Lines.{message_of}
+use Rattle.command_status.proofs.EndLemmas.{message_of-end}
 use Rattle.command_status.specs.declared.status.Status.{Status}
 use Rattle.command_status.specs.declared.status.Status.TheVariants.{LoadFault, OutFault, OutOfMemory}
 use Rattle.command_words.specs.Request.{Job, Positions, View, watching_at}
@@ -352,7 +353,7 @@ same_run old new job put found status err has is = record {
 abbrev pub exact_of : (old new : Outside) (job : Job) (positions : Positions) (view : View) (found status : Status)
     (err : Stream) → IsWorked old job positions view found (record new { err = err }) → status ≡ found
     → new.err.taken ≡ taken_more err.taken (message_of found)
-    → IsExactReport old job positions view status new
+    → IsExactReport old job (files_at positions) view status new
 exact_of old new job positions view found status err w is written = record {
   run = same_run old new job (files_at positions) found status err w.run is;
   report_on = w.report_on;
@@ -360,5 +361,6 @@ exact_of old new job positions view found status err w is written = record {
   out = w.out;
   err = written ∙ ap (λ t. taken_more t (message_of found)) w.err
       ∙ more_taken old.err.taken (sent_bytes 2 w.run.run.trace) (message_of found)
-      ∙ ap (λ (s : Status). taken_more old.err.taken (sent_bytes 2 w.run.run.trace ++ message_of s)) (sym is);
+      ∙ ap (λ t. taken_more old.err.taken (sent_bytes 2 w.run.run.trace ++ t))
+      (ap message_of w.run.status_is ∙ message_of-end w.run.run.stop.end);
 }

@@ -25,10 +25,11 @@ use Rattle.profile_cli.proofs.Others.{read_is_run, refused_is_own, read_stands}
 use Rattle.run_laws.specs.Addresses.{addr_parts}
 use Rattle.report_laws.specs.Rows.{AreEntriesSmall}
 use Rattle.report_laws.proofs.AddrOwnLemmas as addresses
-use Rattle.report_laws.proofs.ReportLemmas.{report_of_run}
+use Rattle.report_laws.proofs.ReportLemmas.{calls_count, report_of_run}
 use Rattle.command_words.specs.Request.{AddressAndLine, Line, Positions, View, watching_at}
 use Rattle.command_steps.specs.Annotate.{AreTextsFor, IsSortPlace, report_options}
 use Rattle.profile_cli.specs.Headline.{ReportOn}
+use Rattle.profile_cli.specs.Counts.{Counts}
 use Rattle.profile_cli.specs.Program.{IsMapOf, lines_of}
 use Rattle.profile_cli.specs.Watching.{files_at, parts_asked}
 use Rattle.profile_cli.proofs.CountLemmas.{counts_of}
@@ -134,8 +135,17 @@ report_on guest can trace makes view p is sort texts text reports sorted = recor
   report = report_of_run guest can trace makes is.profile is.of_run (report_options view sort) texts text
       (is.report (report_options view sort) texts text reports);
   sorted = sort_over view.sort p is.profile sort (sym is.events) sorted;
-  counts = counts_of guest can trace makes is.profile is.of_run;
 }
+
+-- and its numbers count
+pub counts_on : (guest : Program) → CanRun guest → (trace : List RunStep) → Makes guest trace → (view : View)
+    (shown : ReportOn guest trace view) → Counts guest trace view shown
+counts_on guest can trace makes view shown =
+    let report = shown.report in
+    record {
+      calls = calls_count guest can trace makes report.profile report.of_run report.groups report.grouped;
+      events = counts_of guest can trace makes report.profile report.of_run;
+    }
 
 -- no sum is too large, so none is the first
 pub none_first : (p : Contents) (position : ℕ) → AreAllWithin p → IsFirstOver p position → ⊥

@@ -1,7 +1,7 @@
 -- All that is said of a reply follows from what the work met and did.
 use Rattle.outside.specs.Outside.{Outside}
 use Rattle.command_status.specs.declared.status.Status.{Status}
-use Rattle.command_words.specs.Request.{Request}
+use Rattle.command_words.specs.Request.{AddressAndLine, Line, Request}
 use Rattle.command_words.specs.Within.{IsWithin}
 use Rattle.profile_cli.specs.Calls.{MakesCalls}
 use Rattle.profile_cli.specs.Profile.{IsReply}
@@ -10,7 +10,7 @@ use Rattle.profile_cli.proofs.ByCallsLemmas.{IsHeadlineByCalls-told}
 use Rattle.profile_cli.proofs.CompleteLemmas.{IsComplete-replies}
 use Rattle.profile_cli.proofs.EveryRunLemmas.{IsAddresses-replies, IsContexts-replies, IsOwnRows-replies}
 use Rattle.profile_cli.proofs.EveryRunLemmas.{IsWaits-replies, budget-replies, can_run-replies}
-use Rattle.profile_cli.proofs.HeadlineLemmas.{IsHeadline-replies, can_report-replies}
+use Rattle.profile_cli.proofs.HeadlineLemmas.{Reports-replies, counts-replies}
 use Rattle.profile_cli.proofs.ReadableLemmas.{IsReadable-replies}
 
 pub IsReply-replies : (old new : Outside) (asked : Request) (status : Status) â†’ IsWithin asked
@@ -18,7 +18,8 @@ pub IsReply-replies : (old new : Outside) (asked : Request) (status : Status) â†
 IsReply-replies old new asked status within replies told = record {
   replies = replies;
   told = told;
-  headline = IsHeadline-replies old new asked status within replies;
+  headline = Reports-replies Line old new asked status within replies;
+  headline_by_address = Reports-replies AddressAndLine old new asked status within replies;
   headline_by_calls = IsHeadlineByCalls-told old new asked status within told;
   complete = IsComplete-replies old new asked status within replies;
   own_parts = IsReadable-replies old new asked status within replies;
@@ -28,5 +29,6 @@ IsReply-replies old new asked status within replies told = record {
   addresses = IsAddresses-replies old new asked status within replies;
   budget = budget-replies old new asked status within replies;
   can_run = can_run-replies old new asked status within replies;
-  can_report = can_report-replies old new asked status within replies;
+  counts = counts-replies Line old new asked status within replies;
+  counts_by_address = counts-replies AddressAndLine old new asked status within replies;
 }

@@ -13,9 +13,10 @@ use Rattle.command_status.specs.Lines.{message_of}
 use Rattle.command_status.specs.Numbers.{is_short}
 use Rattle.command_status.specs.declared.status.Status.{Status}
 use Rattle.command_words.specs.Request.{Request, Job, Positions, Report, View}
-use Rattle.profile_cli.specs.HasRun.{RunOf, files_put}
+use Rattle.profile_cli.specs.HasRun.{RunOf, run_files}
 use Rattle.profile_cli.specs.Watching.{files_at}
 use Rattle.profile_cli.specs.Headline.{ReportOn}
+use Rattle.profile_cli.specs.Counts.{Counts}
 use Rattle.command_steps.specs.Loading.{input_limit}
 use Rattle.profile_cli.specs.Order.{program_limit}
 use Rattle.profile_cli.specs.Words.{program_of}
@@ -58,10 +59,11 @@ pub record IsReportByCalls (job : Job) (positions : Positions) (view : View) (st
   pub run : RunOf job program input
   pub status_is : status ≡ end_status run.stop.end
   pub report_on : ReportOn run.guest run.trace view
+  pub counts : Counts run.guest run.trace view report_on
   pub sources : AreShown view.auto report_on.report.profile report_on.texts
   pub calls : log.calls
       ≡ Loaded (program_of job.args) program_limit (Ok program)
-      ∷ feeding ++ puts_of (files_put (files_at positions) run) ++ loads_back (files_put (files_at positions) run)
+      ∷ feeding ++ puts_of (run_files (files_at positions) run) ++ loads_back (run_files (files_at positions) run)
       ++ loads_of report_on.texts
   pub out : AreWrittenThen (pieces 1 run.trace) report_on.text log.out
   pub err : AreWrittenThen (pieces 2 run.trace) (message_of status) log.err

@@ -17,7 +17,7 @@ use Rattle.profile_cli.specs.HasRun.{RunOf}
 use Rattle.profile_cli.specs.Headline.{IsExactReport}
 use Rattle.command_steps.specs.Loading.{input_limit}
 use Rattle.profile_cli.specs.Order.{loading, program_limit}
-use Rattle.profile_cli.specs.Watching.{output_asked}
+use Rattle.profile_cli.specs.Watching.{files_at, output_asked}
 use Rattle.profile_cli.specs.Words.{program_of}
 use Rattle.byte_text.specs.Memory.{memory}
 use Rattle.command_steps.specs.Certain.{Decides, IsCalm, IsCertainReport}
@@ -53,7 +53,7 @@ IsCertain old files (words.Run job watching) status new =
     (IsCalm old new → Ends old job watching (faultless_course files job) status new) status
 IsCertain old files (words.Report job positions view) status new =
     Decides (first_stop (loading job (faultless_course files job)))
-    (IsCalm old new → IsExactReport old job positions view status new) status
+    (IsCalm old new → IsExactReport old job (files_at positions) view status new) status
 IsCertain old files (words.Annotate names view) status new = IsCertainReport old files names view status new
 IsCertain old files (words.Demo size) status new =
     IsCalm old new → IsExactDemo old size status (message_of status) new

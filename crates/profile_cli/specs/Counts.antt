@@ -8,10 +8,16 @@ use Rattle.cg_read.specs.Profiles.{Contents}
 use Rattle.cycles.specs.Limits.{pair_calls}
 use Rattle.once_each.specs.Profiles.{Numbering}
 use Rattle.once_each.specs.Texts.{numbers_in}
-use Rattle.profile_run.specs.Program.{Program, head_of_run}
+use Rattle.profile_run.specs.Program.{CanRun, Program, head_of_run}
 use Rattle.profile_run.specs.Trace.{RunStep}
 use Rattle.reads_back.specs.Rows.{naming}
 use Rattle.run_laws.specs.Runs.{events_with_stacks}
+use Rattle.report_laws.specs.Reports.{CallsCount}
+use Rattle.outside.specs.Outside.{Outside}
+use Rattle.command_words.specs.Request.{Job, View}
+use Rattle.command_status.specs.declared.status.Status.{Status}
+use Rattle.profile_cli.specs.HasRun.{RunFiles}
+use Rattle.profile_cli.specs.Headline.{IsExactReport, ReportOn}
 
 -- the numbers that a profile has for the functions and files of the guest
 abbrev pub numbers_of : Program → Contents → Numbering
@@ -47,3 +53,17 @@ pub record CountEvents (guest : Program) (trace : List RunStep) (p : Contents) :
       → sum_by (λ row. if test row.func row.file row.line then slice_index row.cost kind else 0) p.self_rows
       ≡ cost_where guest trace p test kind
   pub calls : (caller callee : ℕ) → pair_calls caller callee p.call_rows ≡ frames_pushed guest trace p caller callee
+
+-- Every other number of a report: the cost of each pair of functions of different groups counts every event once; every
+-- cost of functions by themselves and of lines, and the totals, the events there; and the number of calls of a pair the
+-- frames that they pushed.
+pub record Counts (guest : Program) (trace : List RunStep) (view : View) (shown : ReportOn guest trace view) : Type 0
+  where
+    pub calls : CallsCount guest trace shown.report.profile shown.report.groups
+    pub events : CountEvents guest trace shown.report.profile
+
+-- what is so of an exact report besides: its guest can be run, and its numbers count
+pub record IsCounted (old : Outside) (job : Job) (put : RunFiles) (view : View) (status : Status) (new : Outside)
+    (exact : IsExactReport old job put view status new) : Type 0 where
+  pub can : CanRun exact.run.run.guest
+  pub counts : Counts exact.run.run.guest exact.run.run.trace view exact.report_on

@@ -15,7 +15,7 @@ use Rattle.command_status.specs.declared.status.Status.TheVariants.{Done}
 use Rattle.command_words.specs.Request.{Line}
 use Rattle.profile_cli.specs.Demo.{demo_job}
 use Rattle.command_steps.specs.Summary.{summary}
-use Rattle.profile_cli.specs.HasRun.{RunOf, files_put}
+use Rattle.profile_cli.specs.HasRun.{RunOf, run_files}
 use Rattle.profile_cli.specs.Watching.{files_at}
 
 -- An exit is what the program is to come to. Any other end of it is the status.
@@ -52,10 +52,10 @@ pub record IsExactDemo (old : Outside) (size : ℕ) (status : Status) (line : Li
   pub made : IsFileOf (demo size) file
   pub run : RunOf demo_job file []
   pub status_is : status ≡ demo_status run.stop.end
-  pub files : new.files ≡ option_map (with_files (files_put (files_at Line) run)) old.files
+  pub files : new.files ≡ option_map (with_files (run_files (files_at Line) run)) old.files
   pub out : new.out.taken
       ≡ taken_more old.out.taken
       (sent_bytes 1 run.trace
-      ++ summary_of_trace size (length file) run.trace run.is.last.0.engine.kernel.guest.made (length (files_put (files_at Line) run))
+      ++ summary_of_trace size (length file) run.trace run.is.last.0.engine.kernel.guest.made (length (run_files (files_at Line) run))
       run.stop.end)
   pub err : new.err.taken ≡ taken_more old.err.taken (sent_bytes 2 run.trace ++ line)

@@ -31,8 +31,8 @@ pub record RunOf (job : Job) (program input : List ℕ) : Type 0 where
 abbrev pub RunFiles : Type 0
 RunFiles = Program → List RunStep → Stop → List Named
 
-abbrev pub files_put : {job : Job} {program input : List ℕ} → RunFiles → RunOf job program input → List Named
-files_put files run = files run.guest run.trace run.stop
+abbrev pub run_files : {job : Job} {program input : List ℕ} → RunFiles → RunOf job program input → List Named
+run_files files run = files run.guest run.trace run.stop
 
 -- The job's program was loaded, and its input; its guest ran to its end, and the status is that of the end. The folder
 -- holds these files of the run besides, and nothing else has changed.
@@ -43,7 +43,7 @@ pub record HasRun (old : Outside) (job : Job) (put : RunFiles) (status : Status)
   pub fed : IsLoadIf old.files job.input input_limit old.load_faults new.load_faults (Ok input)
   pub run : RunOf job program input
   pub status_is : status ≡ end_status run.stop.end
-  pub files : new.files ≡ option_map (with_files (files_put put run)) old.files
+  pub files : new.files ≡ option_map (with_files (run_files put run)) old.files
 
 -- ---- what is so of every run
 

@@ -6,6 +6,7 @@ use Rattle.outside.specs.Files.{Rose}
 use Rattle.outside.specs.Outside.{Named, Outside, Output, nothing}
 use Rattle.outside.specs.declared.folder.PutError.{PutError}
 use Rattle.outside.specs.declared.folder.PutError.TheVariants as put
+use Rattle.run_laws.specs.OwnParts.{files_of_run}
 use Rattle.profile_run.specs.Program.{Program, joined_texts}
 use Rattle.profile_run.specs.Parts.{Writing, plain_parts}
 use Rattle.profile_run.specs.Runs.{whole_output}
@@ -43,8 +44,8 @@ waits_file guest trace = (
 
 -- the files of a run with such positions, in the order in which they are put
 abbrev pub files_at : Positions → Program → List RunStep → Stop → List Named
-files_at Line guest trace stop = (plain_parts guest).whole (steps_of trace) stop.tried
-files_at AddressAndLine guest trace stop = (addr_parts guest).whole (steps_of trace) stop.tried
+files_at Line = files_of_run
+files_at AddressAndLine = λ guest trace stop. (addr_parts guest).whole (steps_of trace) stop.tried
 
 -- and those of a run that counts this besides
 abbrev pub files_asked : Watching → Program → List RunStep → Stop → List Named

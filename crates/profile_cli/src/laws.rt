@@ -8,7 +8,7 @@ ghost use Rattle.command_words.specs.Request.{Job, Positions, View, Watching};
 ghost use Rattle.profile_run.specs.Program.{CanRun};
 ghost use Rattle.profile_cli.specs.HasRun.{HasRun, RunFiles, RunOf};
 ghost use Rattle.profile_cli.specs.Headline.{IsExactReport, ReportOn};
-ghost use Rattle.profile_cli.specs.Watching.{files_asked, output_asked};
+ghost use Rattle.profile_cli.specs.Watching.{files_asked, files_at, output_asked};
 
 /// A job has one run with a program that can be run and an input, whatever map tells the program's symbols. It does
 /// nothing: its contract is a law.
@@ -56,27 +56,27 @@ pub fn equal_commands_end_alike()
 pub fn equal_reports_are_one()
     // The folders are equal behind them as before,
     ensures files { (old other : Outside) (job : Job) (positions : Positions) (view : View) (status end : Status)
-        (new left : Outside) (first : IsExactReport old job positions view status new)
-        (second : IsExactReport other job positions view end left)
+        (new left : Outside) (first : IsExactReport old job (files_at positions) view status new)
+        (second : IsExactReport other job (files_at positions) view end left)
         → CanRun first.run.run.guest → CanRun second.run.run.guest → first.run.program ≡ second.run.program
         → first.run.input ≡ second.run.input → old.files ≡ other.files → new.files ≡ left.files }
-    // and so is what the sinks have taken.
-    ensures out { (old other : Outside) (job : Job) (positions : Positions) (view : View) (status end : Status)
-        (new left : Outside) (first : IsExactReport old job positions view status new)
-        (second : IsExactReport other job positions view end left)
+    // and so is what the sinks have taken, whatever files are put.
+    ensures out { (old other : Outside) (job : Job) (put more : RunFiles) (view : View) (status end : Status)
+        (new left : Outside) (first : IsExactReport old job put view status new)
+        (second : IsExactReport other job more view end left)
         → CanRun first.run.run.guest → CanRun second.run.run.guest → first.run.program ≡ second.run.program
         → first.run.input ≡ second.run.input → first.report_on.texts ≡ second.report_on.texts
         → old.out.taken ≡ other.out.taken → new.out.taken ≡ left.out.taken }
     // Where the view shows no sources there are none to compare.
-    ensures bare { (old other : Outside) (job : Job) (positions : Positions) (view : View) (status end : Status)
-        (new left : Outside) (first : IsExactReport old job positions view status new)
-        (second : IsExactReport other job positions view end left)
+    ensures bare { (old other : Outside) (job : Job) (put more : RunFiles) (view : View) (status end : Status)
+        (new left : Outside) (first : IsExactReport old job put view status new)
+        (second : IsExactReport other job more view end left)
         → CanRun first.run.run.guest → CanRun second.run.run.guest → first.run.program ≡ second.run.program
         → first.run.input ≡ second.run.input → view.auto ≡ false → old.out.taken ≡ other.out.taken
         → new.out.taken ≡ left.out.taken }
-    ensures err { (old other : Outside) (job : Job) (positions : Positions) (view : View) (status end : Status)
-        (new left : Outside) (first : IsExactReport old job positions view status new)
-        (second : IsExactReport other job positions view end left)
+    ensures err { (old other : Outside) (job : Job) (put more : RunFiles) (view : View) (status end : Status)
+        (new left : Outside) (first : IsExactReport old job put view status new)
+        (second : IsExactReport other job more view end left)
         → CanRun first.run.run.guest → CanRun second.run.run.guest → first.run.program ≡ second.run.program
         → first.run.input ≡ second.run.input → old.err.taken ≡ other.err.taken → new.err.taken ≡ left.err.taken }
 {}

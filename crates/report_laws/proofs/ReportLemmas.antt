@@ -10,11 +10,11 @@ use Rattle.profile_run.specs.Program.{Program, CanRun}
 use Rattle.profile_run.specs.Trace.{Makes, RunStep}
 use Rattle.run_laws.specs.Profiles.{IsProfileOfRun, number_in}
 use Rattle.report_laws.proofs.Others.{groups_are, inclusive_is, none_over, pair_is}
-use Rattle.report_laws.specs.Reports.{AreGroupsOfRun, IsReportOfRun}
+use Rattle.report_laws.specs.Reports.{AreGroupsOfRun, CallsCount, IsReportOfRun}
 
 module _ (guest : Program) (can : CanRun guest) (past : List RunStep) (makes : Makes guest past) (p : Contents)
     (is : IsProfileOfRun guest past p) where
-  pub as_in_run : (groups : Grouping) → IsGroupsOf p groups → AreGroupsOfRun guest past p groups
+  as_in_run : (groups : Grouping) → IsGroupsOf p groups → AreGroupsOfRun guest past p groups
   as_in_run groups of_profile f g known_f known_g there_f there_g =
       let same = of_profile.numbered.same (number_in guest p f) (number_in guest p g) there_f there_g in
       let reach = groups_are guest can past makes p is f g known_f known_g there_f in
@@ -28,12 +28,16 @@ module _ (guest : Program) (can : CanRun guest) (past : List RunStep) (makes : M
     of_run = is;
     groups = reports.groups;
     grouped = reports.grouped;
-    as_in_run = as_in_run reports.groups reports.grouped;
     costs = reports.costs;
     once = inclusive_is guest can past makes p is reports.groups reports.costs reports.grouped reports.inclusive;
-    pairs_once = λ caller callee kind within from to apart.
-        pair_is guest can past makes p is reports.groups caller callee kind reports.grouped within from to apart;
     report = reports.report;
+  }
+
+  pub calls_count : (groups : Grouping) → IsGroupsOf p groups → CallsCount guest past p groups
+  calls_count groups grouped = record {
+    as_in_run = as_in_run groups grouped;
+    pairs_once = λ caller callee kind within from to apart.
+        pair_is guest can past makes p is groups caller callee kind grouped within from to apart;
   }
 
   pub no_limit : (position : ℕ) → IsFirstOver p position → ⊥

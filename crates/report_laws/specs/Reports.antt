@@ -34,20 +34,22 @@ PairsCountOnce guest trace p groups =
 abbrev pub cut_at : DumpPoints → Program → Program
 cut_at asked guest = record guest { options = record guest.options { dump_points = asked } }
 
--- The report on a run is that on a profile of all its rows. Its groups are those of the run's call graph, and the cost
--- of a group is what the events cost during which one of its functions stands on their thread's stack, each counted
--- once.
+-- The report on a run is that on a profile of all its rows. The cost of a group is what the events cost during which one
+-- of its functions stands on their thread's stack, each counted once.
 pub record IsReportOfRun (guest : Program) (trace : List RunStep) (options : ReportOptions) (texts : SourceTexts)
     (text : List ℕ) : Type 0 where
   pub profile : Contents
   pub of_run : IsProfileOfRun guest trace profile
   pub groups : Grouping
   pub grouped : IsGroupsOf profile groups
-  pub as_in_run : AreGroupsOfRun guest trace profile groups
   pub costs : List (List ℕ)
   pub once : CountOnce guest trace profile groups costs
-  pub pairs_once : PairsCountOnce guest trace profile groups
   pub report : IsReport profile groups costs options texts text
+
+-- Calls count as in the run, in a report on it.
+pub record CallsCount (guest : Program) (trace : List RunStep) (p : Contents) (groups : Grouping) : Type 0 where
+  pub as_in_run : AreGroupsOfRun guest trace p groups
+  pub pairs_once : PairsCountOnce guest trace p groups
 
 -- The texts of the reports on two profiles are the same behind their first lines, which show the commands.
 pub record DifferByCommand (p q : Contents) (text other : List ℕ) : Type 0 where

@@ -13,7 +13,7 @@ ghost use Rattle.reads_back.specs.Joined.{no_rows_of};
 ghost use Rattle.run_laws.specs.Addresses.{addr_parts};
 ghost use Rattle.run_laws.specs.OwnParts.{files_of_run, texts_of_files};
 ghost use Rattle.run_laws.specs.Profiles.{IsProfileOfRun};
-ghost use Rattle.report_laws.specs.Reports.{IsReportOfRun, cut_at};
+ghost use Rattle.report_laws.specs.Reports.{CallsCount, IsReportOfRun, cut_at};
 ghost use Rattle.report_laws.specs.Rows.{AreEntriesSmall};
 
 /// The report on a profile of all rows of a run has the groups of the run's call graph; each inclusive cost counts
@@ -23,6 +23,9 @@ pub fn reports_on_a_run_count_each_event_once()
     ensures once { (guest : Program) (past : List RunStep) (p : Contents) (options : ReportOptions) (texts : SourceTexts)
         (text : List ℕ) → CanRun guest → Makes guest past → IsProfileOfRun guest past p
         → IsReportOf p options texts text → IsReportOfRun guest past options texts text }
+    ensures calls { (guest : Program) (past : List RunStep) (options : ReportOptions) (texts : SourceTexts)
+        (text : List ℕ) → CanRun guest → Makes guest past → (report : IsReportOfRun guest past options texts text)
+        → CallsCount guest past report.profile report.groups }
     // No sum of a run's profile is too large for a report.
     ensures within { (guest : Program) (past : List RunStep) (p : Contents) (position : ℕ) → CanRun guest
         → Makes guest past → IsProfileOfRun guest past p → IsFirstOver p position → ⊥ }

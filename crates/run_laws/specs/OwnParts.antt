@@ -5,14 +5,16 @@ use Rattle.outside.specs.Outside.{Named}
 use Rattle.profile_files.specs.WantedFile.{WantedFile}
 use Rattle.profile_files.specs.declared.fault.ReadFault.{ReadFault}
 use Rattle.profile_files.specs.declared.fault.ReadFault.TheVariants.{LoadFault, OutOfMemory}
-use Rattle.profile_run.specs.Program.{Program}
-use Rattle.profile_run.specs.Parts.{plain_parts}
+use Rattle.recorder.specs.Rows.{rows_of}
+use Rattle.part_dump.specs.Parts.{files}
+use Rattle.profile_run.specs.Program.{Program, head_of_run}
 use Rattle.profile_run.specs.Trace.{Stop, RunStep, steps_of}
 use Rattle.byte_text.specs.Memory.{memory}
 
 -- the files of a run that nobody watches
 abbrev pub files_of_run : Program → List RunStep → Stop → List Named
-files_of_run guest trace stop = (plain_parts guest).whole (steps_of trace) stop.tried
+files_of_run guest trace stop =
+    files (rows_of guest.syms) (head_of_run guest) guest.syms guest.options.base guest.options.dump_points (steps_of trace)
 
 abbrev pub texts_of_files : List Named → List (List ℕ)
 texts_of_files files = map (λ f. f.1) files

@@ -1,14 +1,14 @@
 -- The profile of a run, and what its sums are in the run's own words.
 use Rattle.std.specs.Prelude.{◌≡◌, ℕ, ◌<◌, ◌==◌, List, [], length, slice_index, slice_index_or}
+use Rattle.std.specs.List.{position_or_len}
 use Rattle.call_graph.specs.Groups.{Grouping, is_member}
 use Rattle.call_graph.specs.declared.arc.CallArc.{CallArc}
-use Rattle.cg_read.specs.Profiles.{Contents, IsProfile}
+use Rattle.cg_read.specs.Profiles.{Contents, IsProfile, same_function}
 use Rattle.once_each.specs.Graphs.{graph}
 use Rattle.once_each.specs.Once.{once, once_pair}
-use Rattle.once_each.specs.Texts.{numbers_in}
 use Rattle.profile_run.specs.Program.{Program, head_of_run}
 use Rattle.profile_run.specs.Trace.{RunStep}
-use Rattle.reads_back.specs.Rows.{IsOfRows, naming}
+use Rattle.reads_back.specs.Rows.{IsOfRows, key_of}
 use Rattle.run_laws.specs.Runs.{command_of_run, events_with_costs, events_with_stacks, rows_of_run}
 
 -- a profile of all rows of a run, and of their command
@@ -18,7 +18,8 @@ pub record IsProfileOfRun (guest : Program) (trace : List RunStep) (p : Contents
 
 -- the number that a profile has for a function of the map, by its texts
 abbrev pub number_in : Program → Contents → ℕ → ℕ
-number_in guest p = (numbers_in p (naming (head_of_run guest) guest.syms)).func
+number_in guest p f =
+    position_or_len (same_function (key_of (head_of_run guest) guest.syms (record { 0 = f }))) p.functions
 
 -- the call graph of a run
 abbrev pub graph_of_run : Program → List RunStep → List CallArc

@@ -4,10 +4,10 @@ use Rattle.cg_read.specs.Profiles.{Contents}
 use Rattle.annotate.specs.Report.{SourceTexts}
 use Rattle.command_steps.specs.Annotate.{AreTextsFor}
 use Rattle.outside.specs.Write.{taken_more}
-use Rattle.command_status.specs.Lines.{message_of}
+use Rattle.command_status.specs.Ends.{end_line}
 use Rattle.profile_run.specs.Trace.{sent_bytes}
 use Rattle.profile_cli.specs.Watching.{files_at}
-use Rattle.profile_cli.proofs.OneRunLemmas.{files_at_same, folder_same, moved, reports_same, status_same, traces_same}
+use Rattle.profile_cli.proofs.OneRunLemmas.{files_at_same, folder_same, moved, reports_same, stops_same, traces_same}
 use Rattle.profile_cli.proofs.laws.equal_reports_are_one.Goals as goal
 
 pub returns-clause-files : goal.returns-clause-files
@@ -18,7 +18,7 @@ returns-clause-files c = λ old other job positions view status end new left fir
     other_can positions)
 
 pub returns-clause-out : goal.returns-clause-out
-returns-clause-out c = λ old other job positions view status end new left first second one_can other_can same equal texts taken.
+returns-clause-out c = λ old other job put more view status end new left first second one_can other_can same equal texts taken.
     let run = moved same equal first.run.run in
     let trace = traces_same job second.run.program second.run.input run second.run.run one_can other_can in
     let text = reports_same job second.run.program second.run.input run second.run.run one_can other_can view
@@ -31,18 +31,16 @@ no_texts true files before now p texts are is = absurd (true≢false is)
 no_texts false files before now p texts are is = are
 
 pub returns-clause-bare : goal.returns-clause-bare
-returns-clause-bare c = λ old other job positions view status end new left first second one_can other_can same equal bare.
-    returns-clause-out c old other job positions view status end new left first second one_can other_can same equal
+returns-clause-bare c = λ old other job put more view status end new left first second one_can other_can same equal bare.
+    returns-clause-out c old other job put more view status end new left first second one_can other_can same equal
     (no_texts view.auto new.files old.load_faults new.load_faults first.report_on.report.profile first.report_on.texts
     first.sources bare
     ∙ sym (no_texts view.auto left.files other.load_faults left.load_faults second.report_on.report.profile
     second.report_on.texts second.sources bare))
 
 pub returns-clause-err : goal.returns-clause-err
-returns-clause-err c = λ old other job positions view status end new left first second one_can other_can same equal taken.
-    let at = files_at positions in
+returns-clause-err c = λ old other job put more view status end new left first second one_can other_can same equal taken.
     let run = moved same equal first.run.run in
     let trace = traces_same job second.run.program second.run.input run second.run.run one_can other_can in
-    let statuses = status_same old other job at at status end new left first.run second.run one_can other_can same
-    equal in
-    first.err ∙ (λ i. taken_more (taken i) (sent_bytes 2 (trace i) ++ message_of (statuses i))) ∙ sym second.err
+    let stop = stops_same job second.run.program second.run.input run second.run.run one_can other_can in
+    first.err ∙ (λ i. taken_more (taken i) (sent_bytes 2 (trace i) ++ end_line (stop i).end)) ∙ sym second.err
