@@ -17,7 +17,7 @@ use Rattle.cache_lru.specs.History.{Access, blocks_of, history_of, access_misses
 use Rattle.cache_lru.specs.Lines.{Cache, StandsFor}
 use Rattle.cache_lru.specs.Costs.{Shapes, StandForEvents, each_after, fetch_of, data_of}
 use Rattle.cache_lru.specs.Costs.{data_misses_ll, fetches, data_references, misses_d1, misses_i1, onward, onward_fetch}
-use Rattle.cache_lru.specs.Costs.{access_of, onward_data, onward_of, counts_as, misses_after}
+use Rattle.cache_lru.specs.Costs.{access_of, onward_data, onward_of, counts_as_branch, counts_by, misses_after}
 use Rattle.cache_lru.specs.Costs.{event_cost, event_costs}
 
 pub history_of-push : (shape : Shape) (earlier : List Access) (access : Access)
@@ -177,4 +177,5 @@ ones_by counts (kind ∷ some) =
 pub event_cost-ones : (branches : Bool) (shapes : Shapes) (events : List Event) (event : Event)
     → All (λ n. n ≤ 1) (event_cost branches shapes events event)
 unfolding event_cost
-event_cost-ones branches shapes events event = ones_by (counts_as branches shapes events event) kinds
+event_cost-ones branches shapes events event =
+    ones_by (counts_by event.done.touch (misses_after shapes events event) (counts_as_branch branches events event)) kinds

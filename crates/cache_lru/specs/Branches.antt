@@ -19,15 +19,13 @@ target_of pc = pc / 4 % 512
 
 -- whether a conditional branch was taken
 abbrev pub outcome_of : Branch → List Bool
-outcome_of Nothing = []
 outcome_of (Cond taken) = taken ∷ []
-outcome_of Indirect = []
+outcome_of _ = []
 
 -- where an indirect branch went
 abbrev pub destination_of : Branch → ℕ → List ℕ
-destination_of Nothing next = []
-destination_of (Cond taken) next = []
 destination_of Indirect next = next ∷ []
+destination_of _ next = []
 
 -- the outcomes of the conditional branches that use a counter, oldest first
 abbrev pub outcomes : ℕ → List Event → List Bool
@@ -74,14 +72,12 @@ fails_after before event =
     branch_fails event.done.branch (count_at (counter_of pc) before) (address_at (target_of pc) before) event.done.next
 
 abbrev pub is_conditional : Branch → Bool
-is_conditional Nothing = false
 is_conditional (Cond taken) = true
-is_conditional Indirect = false
+is_conditional _ = false
 
 abbrev pub is_indirect : Branch → Bool
-is_indirect Nothing = false
-is_indirect (Cond taken) = false
 is_indirect Indirect = true
+is_indirect _ = false
 
 -- whether a branch counts as a kind of event, from whether its prediction fails
 abbrev pub branch_counts : Branch → Bool → Kind → Bool

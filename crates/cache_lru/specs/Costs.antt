@@ -34,14 +34,12 @@ abbrev pub data_of : Event → List Access
 data_of event = access_of event.done.touch
 
 abbrev pub is_read : Touch → Bool
-is_read Nothing = false
 is_read (Read _ _) = true
-is_read (Write _ _) = false
+is_read _ = false
 
 abbrev pub is_write : Touch → Bool
-is_write Nothing = false
-is_write (Read _ _) = false
 is_write (Write _ _) = true
+is_write _ = false
 
 -- a data reference has 1 to 4 bytes and ends within the address space
 abbrev pub CanRefer : Touch → Type 0
@@ -85,11 +83,7 @@ onward shapes events =
     flat_map (λ accesses. accesses)
     (each_after (λ before event. onward_fetch shapes before event ++ onward_data shapes before event) [] events)
 
--- the fetch of an event misses in LL too, and its data reference, which comes after the fetch
-abbrev pub fetch_misses_ll : Shapes → List Event → Event → Bool
-fetch_misses_ll shapes before event =
-    list_any (access_misses shapes.ll (onward shapes before)) (onward_fetch shapes before event)
-
+-- the data reference of an event misses in LL too; it comes after the fetch
 abbrev pub data_misses_ll : Shapes → List Event → Event → Bool
 data_misses_ll shapes before event =
     list_any (access_misses shapes.ll (onward shapes before ++ onward_fetch shapes before event))
@@ -106,7 +100,7 @@ abbrev pub misses_after : Shapes → List Event → Event → EventMisses
 misses_after shapes before event = record {
   fetch = misses_i1 shapes before event;
   reference = misses_d1 shapes before event;
-  fetch_in_last = fetch_misses_ll shapes before event;
+  fetch_in_last = list_any (access_misses shapes.ll (onward shapes before)) (onward_fetch shapes before event);
   reference_in_last = data_misses_ll shapes before event;
 }
 
@@ -132,14 +126,10 @@ abbrev pub counts_as_branch : Bool → List Event → Event → Kind → Bool
 counts_as_branch branches before event kind =
     branches && branch_counts event.done.branch (fails_after before event) kind
 
--- whether an event counts as a kind after the events before it
-abbrev pub counts_as : Bool → Shapes → List Event → Event → Kind → Bool
-counts_as branches shapes before event =
-    counts_by event.done.touch (misses_after shapes before event) (counts_as_branch branches before event)
-
 -- The cost of an event after the events before it: 1 for each kind of event that it counts as, else 0.
 unfoldable pub event_cost : Bool → Shapes → List Event → Event → List ℕ
-event_cost branches shapes before event = cost_by (counts_as branches shapes before event)
+event_cost branches shapes before event =
+    cost_by (counts_by event.done.touch (misses_after shapes before event) (counts_as_branch branches before event))
 
 -- the costs of the events of a list, in their order: that of each after all events before it, of any thread
 abbrev pub event_costs : Bool → Shapes → List Event → List (List ℕ)

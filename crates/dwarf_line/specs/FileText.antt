@@ -20,15 +20,12 @@ join_paths directory path = directory ++ 0x2f ∷ path
 abbrev pub root_path : List TableEntry → List ℕ
 root_path directories = option_map_or (λ entry. entry.path) (slice_get directories 0) []
 
--- A directory's text: but for directory 0, a relative one stands in directory 0.
-abbrev pub directory_path : List TableEntry → ℕ → List ℕ → List ℕ
-directory_path directories index path =
-    if index == 0 || is_absolute path then path else join_paths (root_path directories) path
-
--- the text of a number's directory, which is empty where the number has none
+-- The text of a number's directory, which is empty where the number has none. But for directory 0, a relative one
+-- stands in directory 0.
 abbrev pub directory_text : List TableEntry → ℕ → List ℕ
 directory_text directories index =
-    option_map_or (λ entry. directory_path directories index entry.path) (slice_get directories index) []
+    option_map_or (λ entry. if index == 0 || is_absolute entry.path then entry.path
+    else join_paths (root_path directories) entry.path) (slice_get directories index) []
 
 -- a path in a directory, alone where the directory's text is empty
 abbrev pub inside : List ℕ → List ℕ → List ℕ
@@ -36,5 +33,5 @@ inside [] path = path
 inside (byte ∷ bytes) path = join_paths (byte ∷ bytes) path
 
 abbrev pub file_text : List TableEntry → TableEntry → List ℕ
-file_text directories file = if is_absolute file.path then file.path else inside
-    (directory_text directories file.directory) file.path
+file_text directories file =
+    if is_absolute file.path then file.path else inside (directory_text directories file.directory) file.path

@@ -13,13 +13,9 @@ pub record LineHeader : Type 0 where
   -- how many numbers follow each opcode below opcode_base, from 1
   pub operand_counts : List ℕ
 
--- how many numbers follow the opcodes 1 to 12 (DWARF 5, 6.2.5.2)
-abbrev pub standard_counts : List ℕ
-standard_counts = 0 ∷ 1 ∷ 1 ∷ 1 ∷ 1 ∷ 0 ∷ 0 ∷ 0 ∷ 1 ∷ 0 ∷ 0 ∷ 1 ∷ []
-
--- a header that states other counts for these opcodes, as far as it states them, is damage
+-- so many numbers follow the opcodes 1 to 12 (DWARF 5, 6.2.5.2); a header that states others for them is damage
 abbrev pub agrees : List ℕ → Bool
-agrees counts = list_all (λ pair. pair.0 == pair.1) (zip counts standard_counts)
+agrees counts = list_all (λ pair. pair.0 == pair.1) (zip counts (0 ∷ 1 ∷ 1 ∷ 1 ∷ 1 ∷ 0 ∷ 0 ∷ 0 ∷ 1 ∷ 0 ∷ 0 ∷ 1 ∷ []))
 
 -- The fields from minimum_instruction_length to standard_opcode_lengths (fields 7 to 12). An instruction
 -- has one operation; a line_range of 0 and an opcode_base of 0 are damage.

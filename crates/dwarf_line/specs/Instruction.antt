@@ -5,9 +5,6 @@ use Rattle.dwarf_line.specs.declared.instruction.Instruction.{Instruction}
 use Rattle.dwarf_line.specs.declared.instruction.Instruction.TheVariants.{Special, CopyRow, AdvancePc, AdvanceLine}
 use Rattle.dwarf_line.specs.declared.instruction.Instruction.TheVariants.{SetFile, ConstAddPc, FixedAdvancePc}
 use Rattle.dwarf_line.specs.declared.instruction.Instruction.TheVariants.{SetAddress, EndSequence, Passed}
-use Rattle.dwarf_line.specs.Standard.{dw_lns_extended_op, dw_lns_copy, dw_lns_advance_pc, dw_lns_advance_line}
-use Rattle.dwarf_line.specs.Standard.{dw_lns_set_file, dw_lns_const_add_pc, dw_lns_fixed_advance_pc}
-use Rattle.dwarf_line.specs.Standard.{dw_lne_end_sequence, dw_lne_set_address}
 use Rattle.dwarf_line.specs.Bytes.{◌>>=◌, bytes_at, number_at}
 use Rattle.dwarf_line.specs.Leb128.{uleb128_at, sleb128_at}
 use Rattle.dwarf_line.specs.Header.{LineHeader}
@@ -18,27 +15,25 @@ operands_at zero bytes = Some (Passed, bytes)
 operands_at (suc count) bytes = uleb128_at bytes >>= λ operand. operands_at count operand.1
 
 -- A standard opcode, below opcode_base (6.2.5.2). Those that only touch registers which no row keeps, and
--- those that aren't known, are passed over with as many operands as the header says.
+-- those that aren't known, are passed over with as many operands as the header says. The others are DW_LNS_copy 1,
+-- advance_pc 2, advance_line 3, set_file 4, const_add_pc 8 and fixed_advance_pc 9.
 unfoldable pub standard_at : LineHeader → ℕ → List ℕ → Option (Instruction × List ℕ)
 standard_at header opcode bytes =
-    if opcode == dw_lns_copy then Some (CopyRow, bytes) else (
-    if opcode == dw_lns_advance_pc then (uleb128_at bytes >>= λ operand. Some (AdvancePc operand.0, operand.1)) else (
-    if opcode == dw_lns_advance_line then (sleb128_at bytes >>= λ operand. Some (AdvanceLine operand.0, operand.1)) else
-    (
-    if opcode == dw_lns_set_file then (uleb128_at bytes >>= λ operand. Some (SetFile operand.0, operand.1)) else (
-    if opcode == dw_lns_const_add_pc then Some (ConstAddPc, bytes) else (
-    if opcode == dw_lns_fixed_advance_pc then
-    (number_at 2 bytes >>= λ operand. Some (FixedAdvancePc operand.0, operand.1)) else
+    if opcode == 0x01 then Some (CopyRow, bytes) else (
+    if opcode == 0x02 then (uleb128_at bytes >>= λ operand. Some (AdvancePc operand.0, operand.1)) else (
+    if opcode == 0x03 then (sleb128_at bytes >>= λ operand. Some (AdvanceLine operand.0, operand.1)) else (
+    if opcode == 0x04 then (uleb128_at bytes >>= λ operand. Some (SetFile operand.0, operand.1)) else (
+    if opcode == 0x08 then Some (ConstAddPc, bytes) else (
+    if opcode == 0x09 then (number_at 2 bytes >>= λ operand. Some (FixedAdvancePc operand.0, operand.1)) else
     operands_at (slice_index header.operand_counts (opcode - 1)) bytes)))))
 
--- An extended opcode of this length, by what stands behind the opcode. The end of a sequence has the
--- length 1 and the setting of an address the length 5.
+-- An extended opcode of this length, by what stands behind the opcode. DW_LNE_end_sequence 1 has the length 1 and
+-- DW_LNE_set_address 2 the length 5.
 unfoldable pub extended_of : ℕ → ℕ → List ℕ → Option Instruction
 extended_of length opcode bytes =
-    if opcode == dw_lne_end_sequence then (if length == 1 then Some EndSequence else None) else (
-    if opcode == dw_lne_set_address then
-    (if length == 5 then (number_at 4 bytes >>= λ address. Some (SetAddress address.0)) else None) else
-    Some Passed)
+    if opcode == 0x01 then (if length == 1 then Some EndSequence else None) else (
+    if opcode == 0x02 then (if length == 5 then (number_at 4 bytes >>= λ address. Some (SetAddress address.0)) else None)
+    else Some Passed)
 
 -- What stands behind the length of an extended opcode, which ends by its length. A length of 0 has no
 -- place for the opcode.
@@ -57,7 +52,7 @@ extended_at bytes = uleb128_at bytes >>= λ length. sized_at length.0 length.1
 unfoldable pub begun_at : LineHeader → ℕ → List ℕ → Option (Instruction × List ℕ)
 begun_at header opcode bytes =
     if nat_le header.opcode_base opcode then Some (Special (opcode - header.opcode_base), bytes) else (
-    if opcode == dw_lns_extended_op then extended_at bytes else standard_at header opcode bytes)
+    if opcode == 0x00 then extended_at bytes else standard_at header opcode bytes)
 
 -- an instruction
 unfoldable pub instruction_at : LineHeader → List ℕ → Option (Instruction × List ℕ)

@@ -8,7 +8,6 @@ pub mod Leb128
 pub mod LineRow
 pub mod Rows
 pub mod Program
-pub mod Standard
 pub mod Registers
 pub mod Table
 pub mod Unit

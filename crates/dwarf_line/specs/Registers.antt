@@ -27,13 +27,11 @@ start = record { address = 0; file = 1; line = 1 }
 
 -- an address further by so many bytes
 unfoldable pub advance_address : Registers → ℕ → Option Registers
-advance_address state bytes = word (state.address + bytes) >>=
-    λ address. Some (record { address = address; file = state.file; line = state.line })
+advance_address state bytes = word (state.address + bytes) >>= λ address. Some (record state { address = address })
 
 -- a line further by so many, or back
 unfoldable pub advance_line : Registers → ℤ → Option Registers
-advance_line state lines = whole_word (pos state.line +ℤ lines) >>=
-    λ line. Some (record { address = state.address; file = state.file; line = line })
+advance_line state lines = whole_word (pos state.line +ℤ lines) >>= λ line. Some (record state { line = line })
 
 -- how far a special opcode moves the address, by how much it is above opcode_base (6.2.5.1)
 abbrev pub special_bytes : LineHeader → ℕ → ℕ
@@ -53,12 +51,10 @@ outcome_of header state CopyRow = Some (Row state)
 outcome_of header state (AdvancePc operations) = advance_address state (operations * header.minimum_length) >>=
     λ there. Some (Goes there)
 outcome_of header state (AdvanceLine lines) = advance_line state lines >>= λ there. Some (Goes there)
-outcome_of header state (SetFile file) =
-    Some (Goes (record { address = state.address; file = file; line = state.line }))
+outcome_of header state (SetFile file) = Some (Goes (record state { file = file }))
 outcome_of header state ConstAddPc = advance_address state (special_bytes header (255 - header.opcode_base)) >>=
     λ there. Some (Goes there)
 outcome_of header state (FixedAdvancePc bytes) = advance_address state bytes >>= λ there. Some (Goes there)
-outcome_of header state (SetAddress address) =
-    Some (Goes (record { address = address; file = state.file; line = state.line }))
+outcome_of header state (SetAddress address) = Some (Goes (record state { address = address }))
 outcome_of header state EndSequence = Some (End state.address)
 outcome_of header state Passed = Some (Goes state)

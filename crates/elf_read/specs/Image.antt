@@ -8,7 +8,8 @@ use Rattle.elf_read.specs.declared.symbol.Symbol.{Symbol}
 use Rattle.elf_read.specs.Header.{header_of}
 use Rattle.elf_read.specs.Programs.{headers_addr_of, segments_of}
 use Rattle.elf_read.specs.Sections.{sections_of, bytes_of, is_named}
-use Rattle.elf_read.specs.Symbols.{symbols_of}
+use Rattle.elf_read.specs.Checks.{table}
+use Rattle.elf_read.specs.Symbols.{symbol_in, symbol_table_of}
 
 pub record Image : Type 0 where
   -- the whole file
@@ -38,5 +39,5 @@ image_of bytes = record {
   headers_addr = headers_addr_of (header_of bytes) (segments_of bytes);
   segments = segments_of bytes;
   sections = sections_of bytes;
-  symbols = symbols_of bytes;
+  symbols = table (symbol_in bytes (symbol_table_of bytes)) (symbol_table_of bytes).count;
 }

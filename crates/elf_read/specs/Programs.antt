@@ -8,7 +8,7 @@ use Rattle.elf_read.specs.declared.error.ElfError.TheVariants.{Interp, BadSegmen
 use Rattle.elf_read.specs.declared.header.FileHeader.{FileHeader}
 use Rattle.elf_read.specs.declared.program.ProgramHeader.{ProgramHeader}
 use Rattle.elf_read.specs.declared.program.Segment.{Segment}
-use Rattle.elf_read.specs.Standard.{program_header_len, pt_load, pt_interp, pf_x, lowest_addr, addr_limit, has_flag}
+use Rattle.elf_read.specs.Standard.{program_header_len, pt_interp, pf_x, lowest_addr, addr_limit, has_flag}
 use Rattle.elf_read.specs.Numbers.{word_at}
 use Rattle.elf_read.specs.Checks.{table, first_fault, whole_fault}
 use Rattle.elf_read.specs.Header.{header_of}
@@ -38,7 +38,7 @@ program_header bytes k = program_header_at bytes ((header_of bytes).program_offs
 -- the segment of a header: PT_LOAD, with memory
 abbrev pub segment_of : ProgramHeader → Option Segment
 segment_of h =
-    if (h.kind == pt_load) && not (h.mem_len == 0)
+    if (h.kind == 1) && not (h.mem_len == 0)
     then Some (record { offset = h.offset; addr = h.addr; file_len = h.file_len; mem_len = h.mem_len; flags = h.flags })
     else None
 

@@ -9,7 +9,7 @@ use Rattle.elf_read.specs.declared.error.ElfError.TheVariants.{Compressed}
 use Rattle.elf_read.specs.declared.section.SectionHeader.{SectionHeader}
 use Rattle.elf_read.specs.declared.section.Section.{Section}
 use Rattle.elf_read.specs.declared.text.Range.{Range}
-use Rattle.elf_read.specs.Standard.{section_header_len, sht_null, sht_nobits, shf_compressed, has_flag}
+use Rattle.elf_read.specs.Standard.{section_header_len, shf_compressed, has_flag}
 use Rattle.elf_read.specs.Numbers.{word_at}
 use Rattle.elf_read.specs.Checks.{table, first_fault, whole_fault}
 use Rattle.elf_read.specs.Header.{header_of, has_sections}
@@ -41,7 +41,7 @@ section_header bytes k = section_header_at bytes ((header_of bytes).section_offs
 
 -- a section of the type has bytes in the file: it is neither SHT_NULL nor SHT_NOBITS
 abbrev pub has_bytes : ℕ → Bool
-has_bytes kind = not (kind == sht_null) && not (kind == sht_nobits)
+has_bytes kind = not (kind == 0) && not (kind == 8)
 
 -- the bytes of a section that are in the file
 abbrev pub content_of : List ℕ → SectionHeader → Range
@@ -50,8 +50,7 @@ content_of bytes h =
 
 -- the strings of the section of this index, of which there are none where there is no such section
 unfoldable pub strings_of : List ℕ → ℕ → Range
-strings_of bytes k =
-    if nat_lt k (section_count bytes) then content_of bytes (section_header bytes k) else nothing
+strings_of bytes k = if nat_lt k (section_count bytes) then content_of bytes (section_header bytes k) else nothing
 
 -- the strings that the names of sections are among: those of the section e_shstrndx
 abbrev pub names_of : List ℕ → Range
@@ -62,18 +61,12 @@ abbrev pub section_name : List ℕ → SectionHeader → Range
 section_name bytes h = if has_bytes h.kind then string_at bytes (names_of bytes) h.name else nothing
 
 abbrev pub section_of : List ℕ → SectionHeader → Section
-section_of bytes h = record {
-  name = section_name bytes h;
-  kind = h.kind;
-  flags = h.flags;
-  addr = h.addr;
-  offset = h.offset;
-  size = h.size;
-}
+section_of bytes h =
+    record { name = section_name bytes h; kind = h.kind; flags = h.flags; addr = h.addr; offset = h.offset; size = h.size }
 
 -- a section that isn't of the type SHT_NULL or SHT_NOBITS has its bytes in the file
 abbrev pub IsHeld : List ℕ → Section → Type 0
-IsHeld bytes s = s.kind ≢ sht_null → s.kind ≢ sht_nobits → s.offset + s.size ≤ length bytes
+IsHeld bytes s = s.kind ≢ 0 → s.kind ≢ 8 → s.offset + s.size ≤ length bytes
 
 -- the bytes of a section
 abbrev pub bytes_of : List ℕ → Section → List ℕ

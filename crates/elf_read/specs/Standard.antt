@@ -48,9 +48,6 @@ symbol_len = 16
 
 -- ---- program headers
 
-abbrev pub pt_load : ℕ
-pt_load = 1
-
 abbrev pub pt_interp : ℕ
 pt_interp = 3
 
@@ -74,20 +71,11 @@ addr_limit = 0x4000_0000
 
 -- ---- section headers
 
-abbrev pub sht_null : ℕ
-sht_null = 0
-
 abbrev pub sht_progbits : ℕ
 sht_progbits = 1
 
-abbrev pub sht_symtab : ℕ
-sht_symtab = 2
-
 abbrev pub sht_strtab : ℕ
 sht_strtab = 3
-
-abbrev pub sht_nobits : ℕ
-sht_nobits = 8
 
 abbrev pub shf_write : ℕ
 shf_write = 1
@@ -95,32 +83,10 @@ shf_write = 1
 abbrev pub shf_alloc : ℕ
 shf_alloc = 2
 
-abbrev pub shf_execinstr : ℕ
-shf_execinstr = 4
-
 abbrev pub shf_compressed : ℕ
 shf_compressed = 0x800
 
 -- ---- symbols
 
-abbrev pub stt_notype : ℕ
-stt_notype = 0
-
-abbrev pub stt_func : ℕ
-stt_func = 2
-
 abbrev pub stb_local : ℕ
 stb_local = 0
-
-abbrev pub stb_global : ℕ
-stb_global = 1
-
-abbrev pub stb_weak : ℕ
-stb_weak = 2
-
--- no section, and the first index that names none
-abbrev pub shn_undef : ℕ
-shn_undef = 0
-
-abbrev pub shn_loreserve : ℕ
-shn_loreserve = 0xff00

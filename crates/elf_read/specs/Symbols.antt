@@ -5,14 +5,15 @@ use Rattle.elf_read.specs.declared.section.SectionHeader.{SectionHeader}
 use Rattle.elf_read.specs.declared.symbol.Symbol.{Symbol}
 use Rattle.elf_read.specs.declared.symbol.SymbolTable.{SymbolTable}
 use Rattle.elf_read.specs.declared.text.Range.{Range}
-use Rattle.elf_read.specs.Standard.{symbol_len, sht_symtab}
+use Rattle.elf_read.specs.Standard.{symbol_len}
 use Rattle.elf_read.specs.Numbers.{half_at, word_at}
 use Rattle.elf_read.specs.Checks.{table}
 use Rattle.elf_read.specs.Sections.{section_count, section_header, strings_of}
 use Rattle.elf_read.specs.Strings.{nothing, string_at}
 
+-- SHT_SYMTAB
 abbrev pub is_symbol_table : SectionHeader → Bool
-is_symbol_table h = h.kind == sht_symtab
+is_symbol_table h = h.kind == 2
 
 -- the first section of that type
 unfoldable pub symbol_section : List ℕ → Option SectionHeader
@@ -22,11 +23,8 @@ symbol_section bytes = find is_symbol_table (table (section_header bytes) (secti
 -- section
 abbrev pub symbol_table_in : List ℕ → Option SectionHeader → SymbolTable
 symbol_table_in bytes None = record { place = 0; count = 0; names = nothing }
-symbol_table_in bytes (Some h) = record {
-  place = h.offset;
-  count = h.size / symbol_len;
-  names = strings_of bytes h.link;
-}
+symbol_table_in bytes (Some h) =
+    record { place = h.offset; count = h.size / symbol_len; names = strings_of bytes h.link }
 
 abbrev pub symbol_table_of : List ℕ → SymbolTable
 symbol_table_of bytes = symbol_table_in bytes (symbol_section bytes)
@@ -46,7 +44,3 @@ symbol_at bytes names place = record {
 -- symbol k of a table
 unfoldable pub symbol_in : List ℕ → SymbolTable → ℕ → Symbol
 symbol_in bytes t k = symbol_at bytes t.names (t.place + symbol_len * k)
-
--- the symbols of the file
-abbrev pub symbols_of : List ℕ → List Symbol
-symbols_of bytes = table (symbol_in bytes (symbol_table_of bytes)) (symbol_table_of bytes).count

@@ -21,11 +21,8 @@ first_memory image args = memory_of (first_cell image args)
 
 -- thread 1, at this pc; all other registers are 0 but the stack pointer, x2
 abbrev pub thread_at : ℕ → ℕ → Thread
-thread_at pc pointer = record {
-  no = record { 0 = 1 };
-  regs = record { pc = pc; x = slice_set (replicate 32 0) 2 pointer };
-  clear = 0;
-}
+thread_at pc pointer =
+    record { no = record { 0 = 1 }; regs = record { pc = pc; x = slice_set (replicate 32 0) 2 pointer }; clear = 0 }
 
 -- the state in which a program begins, with its arguments and its input
 abbrev pub guest_at_start : Image → List (List ℕ) → List ℕ → Guest

@@ -15,40 +15,17 @@ stack_start = 0x7f80_0000
 abbrev pub stack_pages : ℕ
 stack_pages = 2048
 
--- kinds of the auxiliary vector: its end, the address, the length and the number of program headers, the length of a
--- page, the entry, and the address of sixteen random bytes
-abbrev pub at_null : ℕ
-at_null = 0
-
-abbrev pub at_phdr : ℕ
-at_phdr = 3
-
-abbrev pub at_phent : ℕ
-at_phent = 4
-
-abbrev pub at_phnum : ℕ
-at_phnum = 5
-
-abbrev pub at_pagesz : ℕ
-at_pagesz = 6
-
-abbrev pub at_entry : ℕ
-at_entry = 9
-
-abbrev pub at_random : ℕ
-at_random = 25
-
 -- the auxiliary vector: kinds, each with its value. Where no segment holds the program headers, their address and
--- their number are 0
+-- their number are 0. AT_PHDR, AT_PHENT, AT_PHNUM, AT_PAGESZ, AT_ENTRY, AT_RANDOM and AT_NULL
 abbrev pub auxiliary_vector : Image → List (ℕ × ℕ)
 auxiliary_vector image =
-    (at_phdr, unwrap_or image.headers_addr 0)
-    ∷ (at_phent, program_header_len)
-    ∷ (at_phnum, if is_some image.headers_addr then image.header_count else 0)
-    ∷ (at_pagesz, 4096)
-    ∷ (at_entry, image.entry)
-    ∷ (at_random, sixteen_start)
-    ∷ (at_null, 0)
+    (3, unwrap_or image.headers_addr 0)
+    ∷ (4, program_header_len)
+    ∷ (5, if is_some image.headers_addr then image.header_count else 0)
+    ∷ (6, 4096)
+    ∷ (9, image.entry)
+    ∷ (25, sixteen_start)
+    ∷ (0, 0)
     ∷ []
 
 -- the words from the stack pointer on: the number of arguments, their addresses, a zero, an environment without

@@ -335,7 +335,7 @@ module _ (parts : Parts) (can : AreFit parts) (flags : All (λ s. s.flags < 2 ^ 
       (entries-fit parts.segments (0 ∷ []) parts.functions (omega arith) function_fits)
 
   -- the symbols, of which there is at least the undefined one
-  symbols : map (symbol_in (full_file parts)) (elf.symbols_of (full_file parts))
+  symbols : map (symbol_in (full_file parts)) ((image_of (full_file parts)).symbols)
       ≡ undefined_symbol ∷ map (function_symbol parts.segments) parts.functions
   symbols =
       let entries = symbol_entries parts.segments parts.functions in
@@ -545,7 +545,7 @@ module _ (parts : Parts) (can : AreFit parts) (flags : All (λ s. s.flags < 2 ^ 
   no_sections : sections_of (plain_file parts) ≡ []
   no_sections = ap (table (section_at (plain_file parts))) count_none
 
-  no_symbols : elf.symbols_of (plain_file parts) ≡ []
+  no_symbols : (image_of (plain_file parts)).symbols ≡ []
   unfolding elf.symbol_section
   no_symbols =
       let absent : elf.symbol_section (plain_file parts) ≡ None =

@@ -7,7 +7,7 @@ use Rattle.elf_read.specs.declared.program.Segment.{Segment}
 use Rattle.elf_read.specs.declared.section.Section.{Section}
 use Rattle.elf_read.specs.declared.symbol.Symbol.{Symbol}
 use Rattle.elf_read.specs.Image.{image_of, content_of}
-use Rattle.elf_read.specs.Standard.{shf_execinstr, shn_undef, stb_global, stb_local, stt_func, stt_notype}
+use Rattle.elf_read.specs.Standard.{stb_local}
 use Rattle.elf_read.specs.Refusal.{refusal}
 use Rattle.elf_read.specs.Strings.{part_of}
 use Rattle.dwarf_line.specs.Program.{SequenceOf}
@@ -54,9 +54,9 @@ undefined_symbol = record {
   name = [];
   value = 0;
   size = 0;
-  kind = stt_notype;
+  kind = 0;
   binding = stb_local;
-  section = shn_undef;
+  section = 0;
 }
 
 -- the symbol of a function
@@ -65,8 +65,8 @@ function_symbol segments f = record {
   name = f.name;
   value = f.addr;
   size = f.size;
-  kind = stt_func;
-  binding = stb_global;
+  kind = 2;
+  binding = 1;
   section = section_number segments f;
 }
 
@@ -82,7 +82,7 @@ function_symbols parts = symbols_for parts.segments parts.functions
 
 -- a function's code lies in a section of code
 pub record HasCode (s : Section) (f : FunctionPart) : Type 0 where
-  pub executable : bit_and s.flags shf_execinstr ≢ 0
+  pub executable : bit_and s.flags 4 ≢ 0
   pub begins : s.addr ≤ f.addr
   pub ends : f.addr + f.size ≤ s.addr + s.size
 

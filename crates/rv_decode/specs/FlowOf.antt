@@ -14,13 +14,9 @@ is_link register = (register == 1) || (register == 5)
 abbrev pub indirect_flow : ℕ → ℕ → Flow
 indirect_flow rd rs1 = if is_link rd then (if is_link rs1 && not (rd == rs1) then Swap else Call) else Jump
 
--- JAL: a call where it keeps the return address in a link
-abbrev pub direct_flow : ℕ → Flow
-direct_flow rd = if is_link rd then Call else Jump
-
--- all but the two jumps go on, conditional branches among them
+-- JAL is a call where it keeps the return address in a link; all but these two go on, conditional branches among them
 abbrev pub flow_by : Op → ℕ → ℕ → Flow
-flow_by JAL rd rs1 = direct_flow rd
+flow_by JAL rd rs1 = if is_link rd then Call else Jump
 flow_by JALR rd rs1 = indirect_flow rd rs1
 flow_by _ rd rs1 = Plain
 

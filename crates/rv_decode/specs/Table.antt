@@ -12,49 +12,34 @@ use Rattle.rv_decode.specs.declared.row.Row.{Row}
 use Rattle.rv_decode.specs.declared.row.Shape.{Shape}
 use Rattle.rv_decode.specs.declared.row.Shape.TheVariants.{R, I, S, B, U, J, Shift, Fence, Whole, Atomic}
 
+abbrev pub row : Op → Shape → ℕ → ℕ → Row
+row op shape mask bits = record { mask = mask; bits = bits; op = op; shape = shape }
+
 -- the opcode alone is fixed
 abbrev pub by_opcode : Op → Shape → ℕ → Row
-by_opcode o shape opcode = record { mask = 127; bits = opcode; op = o; shape = shape }
+by_opcode o shape opcode = row o shape 127 opcode
 
 -- the opcode and funct3
 abbrev pub by_funct3 : Op → Shape → ℕ → ℕ → Row
-by_funct3 o shape opcode funct3 = record {
-  mask = 127 + 7 * 2 ^ 12;
-  bits = opcode + funct3 * 2 ^ 12;
-  op = o;
-  shape = shape;
-}
+by_funct3 o shape opcode funct3 = row o shape (127 + 7 * 2 ^ 12) (opcode + funct3 * 2 ^ 12)
 
 -- the opcode, funct3 and funct7
 abbrev pub by_funct7 : Op → Shape → ℕ → ℕ → ℕ → Row
-by_funct7 o shape opcode funct3 funct7 = record {
-  mask = 127 + 7 * 2 ^ 12 + 127 * 2 ^ 25;
-  bits = opcode + funct3 * 2 ^ 12 + funct7 * 2 ^ 25;
-  op = o;
-  shape = shape;
-}
+by_funct7 o shape opcode funct3 funct7 =
+    row o shape (127 + 7 * 2 ^ 12 + 127 * 2 ^ 25) (opcode + funct3 * 2 ^ 12 + funct7 * 2 ^ 25)
 
 -- an atomic on words: opcode 0x2f, funct3 2, and funct5
 abbrev pub by_funct5 : Op → ℕ → Row
-by_funct5 o funct5 = record {
-  mask = 127 + 7 * 2 ^ 12 + 31 * 2 ^ 27;
-  bits = 0x2f + 2 * 2 ^ 12 + funct5 * 2 ^ 27;
-  op = o;
-  shape = Atomic;
-}
+by_funct5 o funct5 = row o Atomic (127 + 7 * 2 ^ 12 + 31 * 2 ^ 27) (0x2f + 2 * 2 ^ 12 + funct5 * 2 ^ 27)
 
 -- the same where rs2 is fixed to 0
 abbrev pub by_funct5_alone : Op → ℕ → Row
-by_funct5_alone o funct5 = record {
-  mask = 127 + 7 * 2 ^ 12 + 31 * 2 ^ 20 + 31 * 2 ^ 27;
-  bits = 0x2f + 2 * 2 ^ 12 + funct5 * 2 ^ 27;
-  op = o;
-  shape = Atomic;
-}
+by_funct5_alone o funct5 =
+    row o Atomic (127 + 7 * 2 ^ 12 + 31 * 2 ^ 20 + 31 * 2 ^ 27) (0x2f + 2 * 2 ^ 12 + funct5 * 2 ^ 27)
 
 -- the whole word
 abbrev pub by_word : Op → ℕ → Row
-by_word o word = record { mask = 0xffffffff; bits = word; op = o; shape = Whole }
+by_word o word = row o Whole 0xffffffff word
 
 unfoldable pub row_of : Op → Row
 row_of LUI = by_opcode LUI U 0x37

@@ -1,7 +1,7 @@
 -- What holds of each form of effect, and so of each instruction.
 use Rattle.std.proofs.Common.{◌≡◌, ℕ, zero, suc, lit≤, Bool, true, false, refl, sym, ◌+◌, ◌%◌, ◌^◌, ◌<◌, ◌≤◌, List}
 use Rattle.std.proofs.Common.{subst, arith}
-use Rattle.std.specs.Prelude.{Option, Some, None, slice_index, ◌==◌, if◌then◌else◌}
+use Rattle.std.specs.Prelude.{Option, Some, None, slice_index, slice_set, ◌==◌, if◌then◌else◌}
 use Rattle.std.specs.Option.{option_and_then, option_map, option_map_or}
 use Rattle.std.proofs.lemmas.Grind.{common_steps}
 use Rattle.event_costs.specs.declared.event.Done.{Done}
@@ -23,7 +23,7 @@ use Rattle.rv_decode.specs.declared.instr.Op.TheVariants.{AMOMIN, AMOMAX, AMOMIN
 use Rattle.guest_mem.specs.Memory.{prot_read, prot_write, prot_exec, Memory, allows_at, may, load_at}
 use Rattle.rv_step.specs.Causes.{flow_at}
 use Rattle.rv_step.specs.Effects.{effect_by, effect_of, word_effect, fetched_effect, step_of}
-use Rattle.rv_step.specs.Forms.{HartState, Outcome, register, address, offset, at, set, with_register, following, is_held}
+use Rattle.rv_step.specs.Forms.{HartState, Outcome, register, address, offset, at, with_register, following, is_held}
 use Rattle.rv_step.specs.Forms.{retires, stays, passes, computes, jumps, branches, reads, loads, stores, aligned}
 use Rattle.rv_step.specs.Forms.{reserves, conditional, stores_held, replaces, swaps}
 use Rattle.rv_step.specs.Promises.{IfRetired, IsSpan, IsWithin, UnlessRetired}
@@ -68,7 +68,8 @@ loaded-may m want a n v given = grind arith
 following-aligned : (r : Regs) → r.pc % 4 ≡ 0 → following r % 4 ≡ 0
 following-aligned r pc_aligned = omega arith
 
-set-zero : (x : List ℕ) (k value : ℕ) → slice_index x 0 ≡ 0 → slice_index (set x k value) 0 ≡ 0
+set-zero : (x : List ℕ) (k value : ℕ) → slice_index x 0 ≡ 0
+    → slice_index (if k == 0 then x else slice_set x k value) 0 ≡ 0
 set-zero x k value at_zero = grind (arith, common_steps)
 
 -- ---- forms

@@ -14,7 +14,7 @@ use Rattle.rv_decode.specs.declared.instr.Op.TheVariants.{JAL, JALR, BEQ, BNE, B
 use Rattle.rv_decode.specs.declared.instr.Op.TheVariants.{LHU, SB, SH, SW, ECALL, EBREAK, LR, SC, AMOSWAP, AMOADD}
 use Rattle.rv_decode.specs.declared.instr.Op.TheVariants.{AMOXOR, AMOAND, AMOOR, AMOMIN, AMOMAX, AMOMINU, AMOMAXU}
 use Rattle.guest_mem.specs.Memory.{prot_read, prot_write, prot_exec, load_at, may}
-use Rattle.rv_step.specs.Forms.{sigtrap, sigbus, sigsegv, HartState, address, offset, register, is_held}
+use Rattle.rv_step.specs.Forms.{HartState, address, offset, register, is_held}
 use Rattle.rv_step.specs.Numbers.{signed}
 use Rattle.rv_step.specs.declared.stepped.Stepped.{Stepped}
 use Rattle.rv_step.specs.declared.stepped.Stepped.TheVariants.{Retired, Call, Trap, Unknown}
@@ -117,18 +117,18 @@ is_ebreak _ = false
 abbrev pub ending_by : Op → Instr → HartState → Option Stepped
 ending_by o i s =
     if is_ecall o then Some Call
-    else (if is_ebreak o then Some (Trap sigtrap)
-    else (if is_off (target_by o i s) then Some (Trap sigbus)
-    else (if is_off (atomic_by o i s) then Some (Trap sigbus)
+    else (if is_ebreak o then Some (Trap 5)
+    else (if is_off (target_by o i s) then Some (Trap 7)
+    else (if is_off (atomic_by o i s) then Some (Trap 7)
     else (if list_all (is_allowed s) (accesses_by o i s) then None
-    else Some (Trap sigsegv)))))
+    else Some (Trap 11)))))
 
 abbrev pub word_ending : ℕ → Option Instr → HartState → Option Stepped
 word_ending word None s = Some (Unknown word)
 word_ending word (Some i) s = ending_by i.op i s
 
 abbrev pub fetched_ending : Option ℕ → HartState → Option Stepped
-fetched_ending None s = Some (Trap sigsegv)
+fetched_ending None s = Some (Trap 11)
 fetched_ending (Some word) s = word_ending word (decode word) s
 
 -- the same for a step: a fetch that isn't allowed comes first, and then an unknown word

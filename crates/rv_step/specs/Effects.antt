@@ -1,6 +1,6 @@
 -- The effect of each instruction (RISC-V unprivileged manual, chapters RV32I, M and A), and of one step.
-use Rattle.std.specs.Prelude.{ℕ, ◌+◌, ◌-◌, ◌%◌, ◌^◌, ◌==◌, not, Option, Some, None, nat_lt, nat_le, int_lt, int_le, min}
-use Rattle.std.specs.Prelude.{max, bit_and, bit_or, bit_xor}
+use Rattle.std.specs.Prelude.{ℕ, ◌+◌, ◌-◌, ◌*◌, ◌%◌, ◌^◌, ◌==◌, not, Option, Some, None, nat_lt, nat_le, int_lt, int_le}
+use Rattle.std.specs.Prelude.{min, max, bit_and, bit_or, bit_xor}
 use Rattle.event_costs.specs.declared.event.Branch.TheVariants as branch
 use Rattle.rv_decode.specs.Decoded.{decode}
 use Rattle.rv_decode.specs.declared.instr.Instr.{Instr}
@@ -12,12 +12,12 @@ use Rattle.rv_decode.specs.declared.instr.Op.TheVariants.{AND, MUL, MULH, MULHSU
 use Rattle.rv_decode.specs.declared.instr.Op.TheVariants.{ECALL, EBREAK, LR, SC, AMOSWAP, AMOADD, AMOXOR, AMOAND, AMOOR}
 use Rattle.rv_decode.specs.declared.instr.Op.TheVariants.{AMOMIN, AMOMAX, AMOMINU, AMOMAXU}
 use Rattle.guest_mem.specs.Memory.{prot_exec, load_at}
-use Rattle.rv_step.specs.Forms.{HartState, Outcome, register, immediate, address, offset, stays, faults, breaks, passes}
+use Rattle.rv_step.specs.Forms.{HartState, Outcome, register, immediate, address, offset, stays, faults, passes}
 use Rattle.rv_step.specs.Forms.{computes, jumps, branches, loads, stores, reserves, stores_held, swaps}
 use Rattle.rv_step.specs.Numbers.{signed, extended, flag, difference, shifted_left, shifted_right, shifted_right_signed}
-use Rattle.rv_step.specs.Numbers.{product, high_signed, high_mixed, high_unsigned, quotient_signed, quotient_unsigned}
+use Rattle.rv_step.specs.Numbers.{high_signed, high_mixed, high_unsigned, quotient_signed, quotient_unsigned}
 use Rattle.rv_step.specs.Numbers.{remainder_signed, remainder_unsigned, least_signed, greatest_signed}
-use Rattle.rv_step.specs.declared.stepped.Stepped.TheVariants.{Call, Unknown}
+use Rattle.rv_step.specs.declared.stepped.Stepped.TheVariants.{Call, Trap, Unknown}
 
 -- the sources
 abbrev pub rs1 : Instr → HartState → ℕ
@@ -64,7 +64,7 @@ effect_by SRL i s = computes i s (shifted_right (rs1 i s) (rs2 i s))
 effect_by SRA i s = computes i s (shifted_right_signed (rs1 i s) (rs2 i s))
 effect_by OR i s = computes i s (bit_or (rs1 i s) (rs2 i s))
 effect_by AND i s = computes i s (bit_and (rs1 i s) (rs2 i s))
-effect_by MUL i s = computes i s (product (rs1 i s) (rs2 i s))
+effect_by MUL i s = computes i s (rs1 i s * rs2 i s % 2 ^ 32)
 effect_by MULH i s = computes i s (high_signed (rs1 i s) (rs2 i s))
 effect_by MULHSU i s = computes i s (high_mixed (rs1 i s) (rs2 i s))
 effect_by MULHU i s = computes i s (high_unsigned (rs1 i s) (rs2 i s))
@@ -74,7 +74,7 @@ effect_by REM i s = computes i s (remainder_signed (rs1 i s) (rs2 i s))
 effect_by REMU i s = computes i s (remainder_unsigned (rs1 i s) (rs2 i s))
 effect_by FENCE i s = passes s
 effect_by ECALL i s = stays Call s
-effect_by EBREAK i s = breaks s
+effect_by EBREAK i s = stays (Trap 5) s
 effect_by LR i s = reserves i s
 effect_by SC i s = stores_held i s
 effect_by AMOSWAP i s = swaps i s (λ old b. b)

@@ -57,13 +57,9 @@ following r = (r.pc + 4) % 2 ^ 32
 abbrev pub at : Regs → ℕ → Regs
 at r pc = record { pc = pc; x = r.x }
 
--- a register written; x0 stays 0
-abbrev pub set : List ℕ → ℕ → ℕ → List ℕ
-set x k value = if k == 0 then x else slice_set x k value
-
--- rd written, and control at another pc
+-- rd written, where it isn't x0, which stays 0, and control at another pc
 abbrev pub with_register : Regs → ℕ → ℕ → ℕ → Regs
-with_register r rd value pc = record { pc = pc; x = set r.x rd value }
+with_register r rd value pc = record { pc = pc; x = if rd == 0 then r.x else slice_set r.x rd value }
 
 -- ---- answers
 
@@ -79,25 +75,12 @@ retires s f t b new = record { stepped = retirement s.regs new.regs f t b; after
 abbrev pub stays : Stepped → HartState → Outcome
 stays answer s = record { stepped = answer; after = s }
 
--- the signals of the traps, under their names and with their numbers in Linux's asm-generic/signal.h
-abbrev pub sigtrap : ℕ
-sigtrap = 5
-
-abbrev pub sigbus : ℕ
-sigbus = 7
-
-abbrev pub sigsegv : ℕ
-sigsegv = 11
-
--- traps
+-- traps, with the numbers of SIGSEGV and SIGBUS in Linux's asm-generic/signal.h
 abbrev pub faults : HartState → Outcome
-faults s = stays (Trap sigsegv) s
-
-abbrev pub breaks : HartState → Outcome
-breaks s = stays (Trap sigtrap) s
+faults s = stays (Trap 11) s
 
 abbrev pub misaligned : HartState → Outcome
-misaligned s = stays (Trap sigbus) s
+misaligned s = stays (Trap 7) s
 
 -- ---- forms
 

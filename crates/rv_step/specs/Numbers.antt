@@ -41,9 +41,6 @@ shifted_right_signed a amount = wrapped (int_shr (signed a) (amount % 32))
 
 -- ---- M
 
-abbrev pub product : ℕ → ℕ → ℕ
-product a b = a * b % 2 ^ 32
-
 -- the upper 32 bits of the product of signed by signed, signed by unsigned and unsigned by unsigned
 unfoldable pub high_signed : ℕ → ℕ → ℕ
 high_signed a b = wrapped (int_shr (signed a *ℤ signed b) 32)

@@ -3,7 +3,7 @@
 ghost use Rattle.std.specs.Prelude.{◌≡◌, ◌%◌, ◌+◌, ◌^◌, ℕ, if◌then◌else◌, is_ok, OnErr, Option};
 ghost use Rattle.guest_mem.specs.Memory.{prot_write, may, store_at, bytes_of};
 ghost use Rattle.rv_decode.specs.Encoded.{HasRegisters};
-ghost use Rattle.rv_step.specs.Forms.{sigsegv, at, retirement, following, outcome, hart_state, stores};
+ghost use Rattle.rv_step.specs.Forms.{at, retirement, following, outcome, hart_state, stores};
 ghost use Rattle.rv_step.specs.inner.Widths.{bytes_stored};
 
 use crate::registers::{address, following, read, retire};
@@ -18,7 +18,7 @@ use rv_decode::Instr;
 fn finish(regs: &mut Regs, address: u32, width: u8, stored: Result<(), Access>) -> Stepped
     ensures answer { result ≡ (if is_ok stored
         then retirement regs.old (at regs.old (following regs.old)) Flow.Plain (Touch.Write address width) Branch.Nothing
-        else Stepped.Trap sigsegv) }
+        else Stepped.Trap 11) }
     ensures after { regs.new ≡ (if is_ok stored then at regs.old (following regs.old) else regs.old) }
 {
     if stored.is_err() {

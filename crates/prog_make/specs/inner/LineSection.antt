@@ -1,6 +1,5 @@
 -- A section `.debug_line` of one unit as bytes (DWARF 5, 6.2.4).
 use Rattle.std.specs.Prelude.{ℕ, List, [], ◌∷◌, ◌++◌, length}
-use Rattle.dwarf_line.specs.Standard.{dw_form_string, dw_lnct_path}
 use Rattle.prog_make.specs.declared.function_part.FunctionPart.{FunctionPart}
 use Rattle.prog_make.specs.Encoding.{half_bytes, word_bytes}
 use Rattle.prog_make.specs.inner.LineProgram.{program_bytes}
@@ -10,9 +9,10 @@ use Rattle.prog_make.specs.inner.LineProgram.{program_bytes}
 abbrev pub constant_bytes : List ℕ
 constant_bytes = 1 ∷ 1 ∷ 1 ∷ 251 ∷ 14 ∷ 13 ∷ 0 ∷ 1 ∷ 1 ∷ 1 ∷ 1 ∷ 0 ∷ 0 ∷ 0 ∷ 1 ∷ 0 ∷ 0 ∷ 1 ∷ []
 
--- one directory, which is empty, and the format of the one file: each is a path that stands there as a string
+-- one directory, which is empty, and the format of the one file: each is a path (DW_LNCT_path) that stands there as a
+-- string (DW_FORM_string)
 abbrev pub table_bytes : List ℕ
-table_bytes = 1 ∷ dw_lnct_path ∷ dw_form_string ∷ 1 ∷ 0 ∷ 1 ∷ dw_lnct_path ∷ dw_form_string ∷ 1 ∷ []
+table_bytes = 1 ∷ 1 ∷ 0x08 ∷ 1 ∷ 0 ∷ 1 ∷ 1 ∷ 0x08 ∷ 1 ∷ []
 
 -- what stands between header_length and the program
 unfoldable pub line_header_bytes : List ℕ → List ℕ

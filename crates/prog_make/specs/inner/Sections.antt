@@ -2,8 +2,8 @@
 use Rattle.std.specs.Prelude.{ℕ, ◌+◌, List, [], ◌∷◌, ◌++◌, map, if◌then◌else◌}
 use Rattle.std.specs.List.{flat_map}
 use Rattle.elf_read.specs.declared.program.Segment.{Segment}
-use Rattle.elf_read.specs.Standard.{pf_w, pf_x, has_flag, symbol_len, sht_null, sht_progbits, sht_symtab, sht_strtab}
-use Rattle.elf_read.specs.Standard.{shf_write, shf_alloc, shf_execinstr}
+use Rattle.elf_read.specs.Standard.{pf_w, pf_x, has_flag, symbol_len, sht_progbits, sht_strtab}
+use Rattle.elf_read.specs.Standard.{shf_write, shf_alloc}
 use Rattle.prog_make.specs.inner.Strings.{lines_name, symbols_name, strings_name, names_name, text_name, data_name}
 use Rattle.prog_make.specs.inner.Strings.{section_strings_len}
 use Rattle.prog_make.specs.declared.section.SectionHeader.{SectionHeader}
@@ -19,7 +19,7 @@ section_bytes h = words_bytes (h.name ∷ h.kind ∷ h.flags ∷ h.addr ∷ h.of
 abbrev pub null_section : SectionHeader
 null_section = record {
   name = 0;
-  kind = sht_null;
+  kind = 0;
   flags = 0;
   addr = 0;
   offset = 0;
@@ -48,7 +48,7 @@ table_section name kind offset size =
 abbrev pub symbol_section : ℕ → ℕ → SectionHeader
 symbol_section offset size = record {
   name = symbols_name;
-  kind = sht_symtab;
+  kind = 2;
   flags = 0;
   addr = 0;
   offset = offset;
@@ -60,7 +60,7 @@ symbol_section offset size = record {
 
 -- in memory, with instructions where the segment is executable, and writable where it is
 abbrev pub segment_section_flags : ℕ → ℕ
-segment_section_flags flags = shf_alloc + (if has_flag pf_x flags then shf_execinstr else 0) +
+segment_section_flags flags = shf_alloc + (if has_flag pf_x flags then 4 else 0) +
     (if has_flag pf_w flags then shf_write else 0)
 
 -- a section with the bytes of a segment, named .text where it is executable and else .data

@@ -1,7 +1,6 @@
 -- The symbol table as bytes (gABI, Symbol Table).
 use Rattle.std.specs.Prelude.{ℕ, ◌+◌, ◌*◌, List, [], ◌∷◌, ◌++◌, length}
 use Rattle.std.specs.List.{flat_map}
-use Rattle.elf_read.specs.Standard.{shn_undef, stb_global, stt_func}
 use Rattle.prog_make.specs.declared.function_part.FunctionPart.{FunctionPart}
 use Rattle.prog_make.specs.declared.symbol.SymbolEntry.{SymbolEntry}
 use Rattle.prog_make.specs.SegmentContent.{SegmentContent}
@@ -14,7 +13,7 @@ symbol_bytes e = words_bytes (e.name ∷ e.value ∷ e.size ∷ []) ++ (e.info �
 
 -- STN_UNDEF, the symbol that stands for none
 abbrev pub undefined_entry : SymbolEntry
-undefined_entry = record { name = 0; value = 0; size = 0; info = 0; section = shn_undef }
+undefined_entry = record { name = 0; value = 0; size = 0; info = 0; section = 0 }
 
 -- st_info, of a binding and a type
 abbrev pub symbol_info : ℕ → ℕ → ℕ
@@ -28,7 +27,7 @@ entries_from place segments (f ∷ functions) =
       name = place;
       value = f.addr;
       size = f.size;
-      info = symbol_info stb_global stt_func;
+      info = symbol_info 1 2;
       section = section_number segments f;
     }
     ∷ entries_from (place + length f.name + 1) segments functions
