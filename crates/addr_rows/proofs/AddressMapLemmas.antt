@@ -2,21 +2,12 @@
 use Rattle.std.proofs.Common.{◌≡◌, ℕ, ◌<◌, List, length, refl, ap, sym, subst, ◌∙◌, arith}
 use Rattle.event_costs.specs.declared.numbers.FuncId.{FuncId}
 use Rattle.event_costs.specs.Keys.{Place}
-use Rattle.sym_map.specs.AddressMap.{address_map}
-use Rattle.sym_map.specs.Ranges.{address_line, no_file}
-use Rattle.sym_map.specs.SymbolMap.{IsFile, IsFunc, IsSound, SymbolMap, is_entry_at, place_of}
+use Rattle.sym_map.specs.AddressMap.{address_line, address_map, no_file}
+use Rattle.sym_map.specs.SymbolMap.{IsFile, IsFunc, IsSound, SymbolMap, place_of}
+pub use Rattle.sym_map.proofs.Told.{address_entry, address_place}
 use Rattle.part_dump.specs.Cuts.{has_name}
 use Rattle.recorder.specs.inner.Known.{KnowsPlaces}
 use Rattle.addr_rows.proofs.AlikeLemmas.{SameCode}
-
-pub address_place : (m : SymbolMap) (a : ℕ)
-    → place_of (address_map m) a ≡ record { func = (place_of m a).func; file = no_file; line = address_line a }
-unfolding address_map place_of
-address_place m a = refl
-
-pub address_entry : (m : SymbolMap) (a : ℕ) → is_entry_at (address_map m) a ≡ is_entry_at m a
-unfolding address_map is_entry_at
-address_entry m a = refl
 
 pub address_code : (m : SymbolMap) → SameCode m (address_map m)
 address_code m = record {

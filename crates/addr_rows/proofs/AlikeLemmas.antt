@@ -1,7 +1,7 @@
 -- Stacks by two maps with the same functions and entries differ in their arcs alone.
 use Rattle.std.proofs.Common.{◌≡◌, ℕ, ◌-◌, ◌||◌, ◌&&◌, Bool, true, false, List, [], ◌∷◌, ◌++◌, Option, None, Some, not}
 use Rattle.std.proofs.Common.{length, map, refl, ap, sym, ◌∙◌, if◌then◌else◌}
-use Rattle.std.specs.Option.{option_map}
+use Rattle.std.specs.Option.{option_map, unwrap_or}
 use Rattle.std.proofs.lemmas.List.{length-map, map-append}
 use Rattle.event_costs.specs.declared.event.Event.{Event}
 use Rattle.event_costs.specs.declared.event.Flow.{Flow}
@@ -9,7 +9,7 @@ use Rattle.event_costs.specs.declared.event.Flow.TheVariants.{Call, Jump, Swap, 
 use Rattle.event_costs.specs.declared.numbers.FuncId.{FuncId}
 use Rattle.sym_map.specs.SymbolMap.{SymbolMap, is_entry_at, place_of}
 use Rattle.shadow_stack.specs.Changes.{Change, above_sp, after, beneath_call, change, change_by, cut, down_to}
-use Rattle.shadow_stack.specs.Changes.{drop_groups, drop_count, is_returned_from, is_under, remaining_groups, next_func, rest_or_groups}
+use Rattle.shadow_stack.specs.Changes.{drop_groups, drop_count, is_returned_from, is_under, remaining_groups, next_func}
 use Rattle.shadow_stack.specs.Changes.{push, settle, settle_on, with_pushed}
 use Rattle.shadow_stack.specs.Kinds.{call_of, is_jump, is_left_by, is_level, jump, returns_by}
 use Rattle.shadow_stack.specs.Stacks.{Activation, Group, Stack, groups, has_func, is_activation_of, is_top, members, on_groups}
@@ -149,14 +149,17 @@ module _ (m n : SymbolMap) (same : SameCode m n) (e : Event) where
       by false = above_shaped (g ∷ gs)
 
   or_left_shaped : (s : Stack) (o : Option Stack)
-      → rest_or_groups n e (shapes s) (option_map shapes o) ≡ shapes (rest_or_groups m e s o)
+      → unwrap_or (option_map shapes o) (stack_of_groups (remaining_groups n e (groups (shapes s))))
+      ≡ shapes (unwrap_or o (stack_of_groups (remaining_groups m e (groups s))))
   or_left_shaped s (Some rest) = refl
   or_left_shaped s None =
       ap (λ gs. stack_of_groups (remaining_groups n e gs)) (groups_shaped s) ∙ ap stack_of_groups (left_shaped (groups s))
       ∙ ungrouped_shaped (remaining_groups m e (groups s))
 
   cut_shaped : (s : Stack) → cut n e (shapes s) ≡ shapes (cut m e s)
-  cut_shaped s = ap (rest_or_groups n e (shapes s)) (beneath_shaped s) ∙ or_left_shaped s (beneath_call e s)
+  cut_shaped s =
+      ap (λ o. unwrap_or o (stack_of_groups (remaining_groups n e (groups (shapes s))))) (beneath_shaped s)
+      ∙ or_left_shaped s (beneath_call e s)
 
   push_shaped : (kind : Kind) (s : Stack) → shaped (push n e kind (shapes s)) ≡ shaped (push m e kind s)
   push_shaped kind s = λ i. record {

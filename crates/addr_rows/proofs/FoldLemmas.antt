@@ -4,13 +4,14 @@ use Rattle.std.proofs.Common.{Some, drop, get_or, map, refl, ap, sym, subst, ◌
 use Rattle.std.specs.List.{AllByRecursion}
 use Rattle.std.specs.Option.{option_map, option_to_list}
 use Rattle.std.proofs.lemmas.Bool.Decides.{nat_tests}
+use Rattle.std.proofs.lemmas.List.{drop-map}
 use Rattle.event_costs.specs.Costs.{IsWhole}
 use Rattle.event_costs.specs.declared.event.Event.{Event}
 use Rattle.event_costs.specs.Keys.{ArcKey, Place}
 use Rattle.event_costs.specs.Order.{arc_order, place_order, same_arc, same_place}
 use Rattle.event_costs.specs.declared.numbers.FuncId.{FuncId}
 use Rattle.sym_map.specs.AddressMap.{address_map}
-use Rattle.sym_map.specs.Ranges.{address_line}
+use Rattle.sym_map.specs.AddressMap.{address_line}
 use Rattle.sym_map.specs.SymbolMap.{SymbolMap, place_of}
 use Rattle.shadow_stack.specs.Changes.{Change, after, arc_from, change, drop_count, next_func, with_pushed}
 use Rattle.shadow_stack.specs.Stacks.{Activation, Stack}
@@ -27,7 +28,6 @@ use Rattle.ctx_rows.proofs.FoldedLemmas.{none_of_arc}
 use Rattle.ctx_rows.proofs.FrameLemmas.{kept_stack}
 use Rattle.ctx_rows.proofs.ShareLemmas as share
 use Rattle.ctx_rows.proofs.ShareLemmas.{HaveSums, Keys, by_place, from_of, froms_on, sums_map}
-use Rattle.ctx_rows.proofs.TrackedLemmas.{drop_map}
 use Rattle.addr_rows.specs.EventRows.{addr_rows_of, located_arc, located_key, located_line}
 use Rattle.addr_rows.specs.Plain.{plain, plain_arc, plain_line}
 use Rattle.addr_rows.proofs.AddressMapLemmas.{address_code, address_place}
@@ -162,10 +162,10 @@ module _ (m : SymbolMap) where
       kept_arcs : map (option_map (located_key m)) (froms_on (change am e r).rest) ≡ froms_on (change m e s).rest
       kept_arcs =
           ap (λ (t : Stack). map (option_map (located_key m)) (froms_on t)) (sym (kept_stack am e r))
-          ∙ ap (map (option_map (located_key m))) (drop_map (λ (a : Activation). a.arc) (drop_count am e r) r)
-          ∙ drop_map (option_map (located_key m)) (drop_count am e r) (froms_on r)
+          ∙ ap (map (option_map (located_key m))) (sym (drop-map (λ (a : Activation). a.arc) (drop_count am e r) r))
+          ∙ sym (drop-map (option_map (located_key m)) (drop_count am e r) (froms_on r))
           ∙ (λ i. drop (sym gone_same i) (at.arcs i))
-          ∙ sym (drop_map (λ (a : Activation). a.arc) (drop_count m e s) s)
+          ∙ drop-map (λ (a : Activation). a.arc) (drop_count m e s) s
           ∙ ap froms_on (kept_stack m e s)
 
       with_arcs : (q p : Option Activation) → option_map (located_key m) (from_of q) ≡ from_of p

@@ -5,7 +5,7 @@ use Rattle.std.proofs.Common.{Some, append_assoc, cond, flat_map, length, map, r
 use Rattle.std.proofs.Common.{if◌then◌else◌}
 use Rattle.std.specs.List.{list_any, sum_by}
 use Rattle.std.specs.Prelude.{fold, max}
-use Rattle.std.specs.Option.{option_map, option_map_or}
+use Rattle.std.specs.Option.{option_map, option_map_or, option_or}
 use Rattle.std.proofs.lemmas.List.{append-nil, map-append, take-map}
 use Rattle.event_costs.specs.declared.event.Event.{Event}
 use Rattle.event_costs.specs.declared.numbers.FuncId.{FuncId}
@@ -19,7 +19,7 @@ use Rattle.shadow_stack.specs.Kinds.{is_root}
 use Rattle.shadow_stack.specs.Stacks.{Activation, Stack}
 use Rattle.shadow_stack.specs.Traces.{EventOnStack, stack_of}
 use Rattle.part_dump.specs.Cuts.{DumpPoints, Split, after_cut, before_cut, closes, cut_after, cuts, dropped_frames, enters}
-use Rattle.part_dump.specs.Cuts.{every_cut, has_name, leaves, marked_after, most_cuts, or_else, split, with_first}
+use Rattle.part_dump.specs.Cuts.{every_cut, has_name, leaves, marked_after, most_cuts, split, with_first}
 use Rattle.part_dump.specs.Steps.{Step, event_of, frames_in, live, steps_of_thread, events_of_thread, stack_at, thread_of}
 use Rattle.part_dump.specs.Steps.{threads}
 use Rattle.part_dump.proofs.StepLemmas.{length-push, own-append}
@@ -227,7 +227,7 @@ module _ (m n : SymbolMap) (same : SameCode n m)
 
     cut_same : (asked : DumpPoints) (steps : ℕ) → cut_after m asked steps y ≡ cut_after n asked steps x
     cut_same asked steps =
-        λ i. or_else (every_cut asked.every steps) (or_else (before_same asked.before i) (after_same asked.after i))
+        λ i. option_or (every_cut asked.every steps) (option_or (before_same asked.before i) (after_same asked.after i))
 
   first_resplit : (earlier : List Step) (x : Step) (s : Split Step Trigger)
       → with_first (with_stack_of m earlier x) (resplit m (earlier ++ x ∷ []) s).recent (resplit m (earlier ++ x ∷ []) s).closed

@@ -1,13 +1,13 @@
 -- The text of a part by address (Valgrind manual, Callgrind Format Specification, version 1: subposition lists): that
 -- of a part, with the address before each line.
 use Rattle.std.specs.Prelude.{ℕ, Bool, ◌==◌, List, [], ◌∷◌, ◌++◌, codes, decimal, false, filter, flat_map, fold, length}
-use Rattle.std.specs.Prelude.{drop, map, reverse}
+use Rattle.std.specs.Prelude.{map, reverse}
 use Rattle.std.specs.Fmt.{digits}
 use Rattle.std.specs.Option.{option_map_or}
 use Rattle.event_costs.specs.Costs.{events_shown}
 use Rattle.event_costs.specs.declared.numbers.FuncId.{FuncId}
 use Rattle.sym_map.specs.SymbolMap.{SymbolMap, entry_of, home_of, place_of}
-use Rattle.cg_format.specs.Heading.{description_lines, event_lines, identity_lines, totals}
+use Rattle.cg_format.specs.Heading.{description_lines, identity_lines, summary_lines, totals}
 use Rattle.cg_format.specs.Marks.{Mark, Callee, Plain, cost_text, text_of}
 use Rattle.cg_format.specs.Part.{at_row, in_file}
 use Rattle.cg_format.specs.Rows.{below, function_of}
@@ -76,7 +76,7 @@ after_row head m before row = row_lines head m (at_row head m before (plain_row 
 -- the lines before the first function, where the line rows have this sum
 abbrev pub heading : PartHead → List ℕ → List (List ℕ)
 heading head sum =
-    identity_lines head ++ description_lines head ++ codes "positions: instr line" ∷ drop 1 (event_lines head sum)
+    identity_lines head ++ description_lines head ++ codes "positions: instr line" ∷ summary_lines head sum
 
 -- the lines of a part, the newest first
 abbrev pub addr_lines : PartHead → AddrListed → SymbolMap → List Mark

@@ -18,7 +18,7 @@ ghost use Rattle.addr_rows.specs.Stacked.{AreOn, with_stacks_of, since};
 ghost use Rattle.addr_rows.specs.Translated.{translation};
 ghost use Rattle.recorder.specs.Rows.{rows_of};
 ghost use Rattle.sym_map.specs.AddressMap.{address_map};
-ghost use Rattle.sym_map.specs.Ranges.{address_line, no_file};
+ghost use Rattle.sym_map.specs.AddressMap.{address_line, no_file};
 ghost use Rattle.addr_rows.specs.Telling.{CanSee, CanWrite, thread_rows};
 ghost use Rattle.addr_rows.specs.States.{AddrState};
 ghost use Rattle.addr_rows.specs.Watching.{IsFresh, by_address};

@@ -3,8 +3,8 @@ use Rattle.std.proofs.Common.{◌<◌, ◌^◌, ℕ, List, Option, length, arith
 use Rattle.std.proofs.lemmas.Bool.Decides.{nat_tests}
 use Rattle.event_costs.specs.Keys.{Place}
 use Rattle.sym_map.specs.declared.function.Function.{Function}
-use Rattle.sym_map.specs.AddressMap.{lines_by_address}
-use Rattle.sym_map.specs.Ranges.{AddressRanges, address_line}
+use Rattle.sym_map.specs.AddressMap.{address_line}
+use Rattle.sym_map.specs.inner.Ranges.{AddressRanges, lines_by_address}
 use Rattle.sym_map.specs.inner.Maps.{IsMap}
 
 pub address_is_map : (functions : List Function) (files : List (List ℕ)) (entries : List (Option ℕ))
@@ -21,8 +21,6 @@ address_is_map functions files entries ranges unknown is = record {
   as_many = is.as_many;
   entry_limit = is.entry_limit;
   ranges_rise = record { symbols = is.ranges_rise.symbols; lines = is.ranges_rise.lines };
-  symbol_limit = is.symbol_limit;
-  line_limit = is.line_limit;
   here_known = λ address small. record {
     symbol = (is.here_known address small).symbol;
     line = some (is.unknown_file);

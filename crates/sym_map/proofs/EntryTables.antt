@@ -11,7 +11,7 @@ use Rattle.std.proofs.lemmas.Bool.Decides.{nat_tests}
 use Rattle.event_costs.specs.declared.numbers.FuncId.{FuncId}
 use Rattle.sym_map.specs.declared.range.Range.{Range}
 use Rattle.sym_map.specs.declared.range.SymbolHere.{SymbolHere}
-use Rattle.sym_map.specs.Ranges.{symbol_of}
+use Rattle.sym_map.specs.inner.Ranges.{symbol_of}
 use Rattle.sym_map.specs.inner.Entries.{entered_func, enters, start_of_first}
 use Rattle.sym_map.proofs.Spans.{or-none}
 

@@ -22,3 +22,4 @@ pub mod AddressMaps
 pub mod Members
 pub mod Rising
 pub mod Numbers
+pub mod Told

@@ -2,7 +2,10 @@
 use Rattle.std.proofs.Common.{◌≡◌, ℕ, ◌<◌, ◌^◌, List, [], ◌∷◌, length, map, Option, Some, option_map, refl, sym, ap}
 use Rattle.std.proofs.Common.{subst, ◌∙◌, Contains, get_or, arith}
 use Rattle.std.specs.Prelude.{All, slice_get, flat_map, unwrap_or}
+use Rattle.std.specs.Cmp.Lexicographic.{slice_cmp}
 use Rattle.std.specs.List.{AllByRecursion}
+use Rattle.std.specs.List.Sorted.{IsStrictlySortedBy}
+use Rattle.std.specs.Ordering.{nat_cmp}
 use Rattle.std.proofs.lemmas.List.{length-map}
 use Rattle.std.proofs.lemmas.List.Elements.{recursion_from_All, All-contains, All-contains_itself, All-map, All-weaker}
 use Rattle.std.proofs.lemmas.Option.{slice_get-map, slice_get-get_or}
@@ -15,8 +18,7 @@ use Rattle.sym_map.specs.declared.range.Cover.{Cover}
 use Rattle.sym_map.specs.declared.range.Range.{Range}
 use Rattle.name_numbers.specs.Keys.{NumberEach}
 use Rattle.sym_map.specs.inner.Lines.{cleaned_file, ShowsLine, AreLinesOf}
-use Rattle.sym_map.specs.SymbolMap.{RiseByBytes}
-use Rattle.sym_map.specs.Places.{unknown_name}
+use Rattle.byte_text.specs.Names.{unknown as unknown_name}
 use Rattle.sym_map.specs.inner.Spans.{cover, IsCutOf}
 use Rattle.sym_map.specs.inner.Rows.{RowSpan, IsBounded, all_rows, line_spans, row_spans}
 use Rattle.sym_map.proofs.LineSpans.{IsLined, shows_lines}
@@ -93,7 +95,7 @@ module _ (table : Rows) (numbers : List ℕ) (alike : Alike numbers (map file_of
 
     pub are_lines : (ranges : List Range) (unknown : ℕ) → All (IsPlaced (length table.rows)) table.sequences
         → All (λ sequence. IsRising row_address (sequence_in table.rows sequence)) table.sequences
-        → RiseByBytes names → Alike names (unknown_name ∷ map (cleaned_file table.files) numbers)
+        → IsStrictlySortedBy (slice_cmp nat_cmp) names → Alike names (unknown_name ∷ map (cleaned_file table.files) numbers)
         → length names < 2 ^ 32 → IsCutOf (line_spans by_file (row_spans table)) ranges
         → slice_get names unknown ≡ Some unknown_name
         → AreLinesOf (sequences_of table) names (record { 0 = unknown }) ranges

@@ -2,12 +2,12 @@
 use Rattle.std.proofs.Common.{◌≡◌, ℕ, ◌-◌, ◌<◌, ◌≤◌, ◌^◌, Bool, true, false, cond, eqb, leb, List, [], ◌∷◌, length}
 use Rattle.std.proofs.Common.{get_or, map, Option, Some, None, option_map, refl, sym, ap, ◌∙◌, subst, Contains, ◌⊎◌}
 use Rattle.std.proofs.Common.{⊎_elim, arith, Ordering}
-use Rattle.std.specs.Prelude.{All, IfSome, filter, find, flat_map, slice_get}
+use Rattle.std.specs.Prelude.{All, IfSome, filter, find, flat_map, not, slice_get}
 use Rattle.std.specs.Option.{option_or, option_and_then, option_map_or}
 use Rattle.std.specs.declared.cmp.Ordering.TheVariants.{Less, Equal, Greater}
-use Rattle.std.specs.Ordering.{nat_cmp, ordering_then, MatchOrdering}
+use Rattle.std.specs.Ordering.{nat_cmp, is_lt, ordering_then, MatchOrdering}
 use Rattle.std.specs.Cmp.Lexicographic.{slice_cmp}
-use Rattle.std.specs.List.{AllByRecursion}
+use Rattle.std.specs.List.{AllByRecursion, list_all}
 use Rattle.std.specs.List.Sorted.{IsStrictlySortedBy}
 use Rattle.std.specs.Cmp.{IsTotalOrder}
 use Rattle.std.proofs.lemmas.Cmp.{ranked, tied_itself, nat_list_cmp_total, then_total, on_total}
@@ -23,6 +23,7 @@ use Rattle.dwarf_line.specs.LineRow.{LineRow, row_at, line_of, line_at, last_at}
 use Rattle.byte_text.specs.Names.{clean_name}
 use Rattle.event_costs.specs.declared.numbers.FileId.{FileId}
 use Rattle.event_costs.specs.declared.numbers.FuncId.{FuncId}
+use Rattle.event_costs.specs.Keys.{Place}
 use Rattle.sym_map.specs.declared.function.Function.{Function}
 use Rattle.sym_map.specs.declared.range.Cover.TheVariants as what
 use Rattle.sym_map.specs.declared.range.LineHere.{LineHere}
@@ -30,25 +31,27 @@ use Rattle.sym_map.specs.declared.range.Range.{Range}
 use Rattle.sym_map.specs.declared.range.SymbolHere.{SymbolHere}
 use Rattle.sym_map.specs.inner.Functions.{home_at}
 use Rattle.sym_map.specs.inner.Lines.{IsLineOf, AreLinesOf}
-use Rattle.sym_map.specs.Places.{Identity, Enters, IsEntryOf, unknown_name, unknown_function, function_of, function_at}
+use Rattle.byte_text.specs.Names.{unknown as unknown_name}
+use Rattle.sym_map.specs.Places.{Identity, Enters, IsEntryOf, unknown_function, function_of, function_at}
 use Rattle.sym_map.specs.Places.{location_at, is_entry, functions_of}
-use Rattle.sym_map.specs.Ranges.{AddressRanges, start_of, cover_at, symbol_of}
-use Rattle.sym_map.specs.Ranges.{here_at}
+use Rattle.sym_map.specs.inner.Ranges.{AddressRanges, start_of, cover_at, symbol_of}
+use Rattle.sym_map.specs.inner.Ranges.{here_at, map_of}
 use Rattle.sym_map.specs.inner.Entries.{entered_func, enters, start_of_first}
-use Rattle.sym_map.proofs.Ranges.{cover_at-start, far_starts, starts_below}
+use Rattle.sym_map.proofs.Ranges.{cover_at-start, far_starts}
 use Rattle.sym_map.proofs.EntryTables.{entered_symbol}
 use Rattle.sym_map.specs.inner.Shows.{Shows}
-use Rattle.sym_map.specs.SymbolMap.{SymbolMap, by_identity, RiseByIdentity, place_of, is_entry_at, identity_in}
+use Rattle.sym_map.specs.SymbolMap.{SymbolMap, by_identity, place_of, is_entry_at, identity_in}
 use Rattle.sym_map.specs.inner.Maps.{IsMap}
 use Rattle.sym_map.specs.SymbolMap.{location_of, IsCleaned}
 use Rattle.sym_map.specs.inner.Maps.{IsKnown}
 use Rattle.sym_map.specs.inner.SymbolTable.{IsSymbolOf}
-use Rattle.sym_map.specs.Symbols.{candidates, covers_sized, covers_unsized, best_of, is_best, symbol_at}
+use Rattle.sym_map.specs.Symbols.{candidates, covers_sized, covers_unsized, best_of, preference, symbol_at}
 use Rattle.sym_map.specs.inner.SymbolTable.{symbol_key, unknown_key, AreSymbolsOf}
 use Rattle.sym_map.proofs.Members.{Alike, Alike-trans, Alike-refl, Alike-map, Contains-first, Contains-cons}
 use Rattle.sym_map.proofs.Members.{Contains-from_map, first_or_rest}
 use Rattle.sym_map.proofs.Preference.{Contains-filter, Found, none, some, found}
 use Rattle.sym_map.proofs.Rising.{far}
+use Rattle.sym_map.proofs.Told.{entry_is, place_is}
 use Rattle.sym_map.specs.FunctionOrder.{by_function}
 
 -- ---- the symbol of an address isn't above it
@@ -65,7 +68,7 @@ best_passes : (image : Image) (test : Symbol → Bool) (s : Symbol)
     → best_of image (filter test (candidates image)) ≡ Some s → test s ≡ true
 best_passes image test s e =
     let passing : List Symbol = filter test (candidates image) in
-    (Contains-filter test (candidates image) s (found_passes (is_best image passing) passing s e)).1
+    (Contains-filter test (candidates image) s (found_passes (λ (x : Symbol). list_all (λ y. not (is_lt (preference image y x))) passing) passing s e)).1
 
 sized_below : (a : ℕ) (s : Symbol) → covers_sized a s ≡ true → s.value ≤ a
 sized_below a s e = grind (arith, nat_tests)
@@ -140,7 +143,7 @@ module _ (lines : List (SequenceOf LineRow)) (names : List (List ℕ)) (unknown 
   file_within (Some l) (Some r) shows = slice_get_within names l.file.0 (clean_name r.file) shows.0
 
   abbrev line_seen : ℕ → Option LineHere
-  line_seen a = Rattle.sym_map.specs.Ranges.line_of (cover_at line_ranges a)
+  line_seen a = Rattle.sym_map.specs.inner.Ranges.line_of (cover_at line_ranges a)
 
   home_text : (a : ℕ) → a < 2 ^ 32
       → get_or names (home_at line_ranges unknown a).0 unknown_name ≡ clean_name (line_at lines a).file
@@ -292,7 +295,7 @@ module _ (lines : List (SequenceOf LineRow)) (names : List (List ℕ)) (unknown 
           (λ z h. within z (Contains-cons x xs z h)) rise.1,
     )
 
-    pub identities_rise : RiseByIdentity (map (identity_in names) functions)
+    pub identities_rise : IsStrictlySortedBy by_identity (map (identity_in names) functions)
     identities_rise = rise_by_identity functions home_of S.functions_rise
 
     keys_named : (xs : List Symbol) → AllByRecursion (λ (s : Symbol). s.value < 2 ^ 32) xs
@@ -310,23 +313,21 @@ module _ (lines : List (SequenceOf LineRow)) (names : List (List ℕ)) (unknown 
         (recursion_from_All (λ (s : Symbol). s.value < 2 ^ 32) (candidates image) S.values) i))
 
     module _ (entries : List (Option ℕ)) where
+      abbrev nowhere : Place
+      nowhere = record { func = unknown_func; file = unknown; line = 0 }
+
       abbrev built : SymbolMap
-      built = record {
-        functions = functions;
-        files = names;
-        entries = entries;
-        ranges = ranges;
-        unknown = record { func = unknown_func; file = unknown; line = 0 };
-      }
+      built = map_of functions names entries ranges nowhere
 
       pub places : (a : ℕ) → a < 2 ^ 32 → location_of built (place_of built a) ≡ location_at image lines a
-      unfolding place_of
-      places a small = λ i. record {
-        function = func_shown (symbol_seen a) (symbol_at image a) (S.shows a small)
-            (values_small a small) i;
-        file = file_shown (line_seen a) (row_at lines a) (L.shows a small) i;
-        line = line_shown (line_seen a) (row_at lines a) (L.shows a small) i;
-      }
+      places a small =
+          ap (location_of built) (place_is functions names entries ranges nowhere a small)
+          ∙ (λ i. record {
+            function = func_shown (symbol_seen a) (symbol_at image a) (S.shows a small)
+                (values_small a small) i;
+            file = file_shown (line_seen a) (row_at lines a) (L.shows a small) i;
+            line = line_shown (line_seen a) (row_at lines a) (L.shows a small) i;
+          })
 
       begins : (a : ℕ) (o : Option SymbolHere) (symbol : Option Symbol) → Shows (IsSymbolOf key functions) o symbol
           → option_map_or (λ (h : SymbolHere). eqb h.value a) o false
@@ -337,8 +338,9 @@ module _ (lines : List (SequenceOf LineRow)) (names : List (List ℕ)) (unknown 
       begins a (Some h) (Some s) shows = ap (λ n. eqb n a) shows.1
 
       pub entry_addresses : (a : ℕ) → a < 2 ^ 32 → is_entry_at built a ≡ is_entry image a
-      unfolding is_entry_at
-      entry_addresses a small = begins a (symbol_seen a) (symbol_at image a) (S.shows a small)
+      entry_addresses a small =
+          entry_is functions names entries ranges nowhere a small
+          ∙ begins a (symbol_seen a) (symbol_at image a) (S.shows a small)
 
       -- an entry is the start of a range
       entry_limit : All (λ (r : Range). r.start < 2 ^ 32) symbol_ranges
@@ -357,7 +359,7 @@ module _ (lines : List (SequenceOf LineRow)) (names : List (List ℕ)) (unknown 
 
       pub is_map : length entries ≡ length functions → All (λ (r : Range). r.start < 2 ^ 32) symbol_ranges
           → ((func : ℕ) → func < length functions → get_or entries func None ≡ start_of_first func symbol_ranges)
-          → IsMap functions names entries ranges (record { func = unknown_func; file = unknown; line = 0 })
+          → IsMap functions names entries ranges nowhere
       is_map as_many starts each = record {
         functions_rise = S.functions_rise;
         few_functions = S.few;
@@ -369,8 +371,6 @@ module _ (lines : List (SequenceOf LineRow)) (names : List (List ℕ)) (unknown 
         as_many = as_many;
         entry_limit = entry_limit starts each as_many;
         ranges_rise = record { symbols = S.rise; lines = L.rise };
-        symbol_limit = starts;
-        line_limit = starts_below line_ranges (2 ^ 32) L.rise L.within;
         here_known = known;
         unknown_func = slice_get_within functions unknown_func.0 (unknown_key unknown) S.unknown_is;
         unknown_file = slice_get_within names unknown.0 unknown_name L.unknown_is;

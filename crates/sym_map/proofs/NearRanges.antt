@@ -9,7 +9,7 @@ use Rattle.std.proofs.lemmas.Option.{slice_get-get_or, slice_get_past}
 use Rattle.std.proofs.lemmas.Bool.{and_parts, eqb-true, le-leb, leb-true, lt-leb, ltb-true}
 use Rattle.sym_map.specs.declared.range.Range.{Range}
 use Rattle.sym_map.specs.declared.range.Cover.TheVariants as what
-use Rattle.sym_map.specs.Ranges.{cover_at}
+use Rattle.sym_map.specs.inner.Ranges.{cover_at}
 use Rattle.sym_map.specs.inner.Rising.{Rise}
 use Rattle.sym_map.specs.inner.Nearby.{is_held, no_range, cover_by_number}
 use Rattle.sym_map.proofs.Ranges.{far_starts, found, last_of-take}

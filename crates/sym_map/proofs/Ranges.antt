@@ -1,7 +1,7 @@
 -- Ranges one by one, passed and put together.
 use Rattle.std.proofs.Common.{◌≡◌, ℕ, ◌+◌, ◌-◌, ◌<◌, ◌≤◌, Bool, true, false, cond, leb, List, [], ◌∷◌, ◌++◌, length}
 use Rattle.std.proofs.Common.{get_or, take, Option, Some, refl, sym, ap, ◌∙◌, ◌⊎◌, ⊎_elim, arith, zero, suc}
-use Rattle.std.specs.Prelude.{All, filter, slice_get, min}
+use Rattle.std.specs.Prelude.{filter, slice_get, min}
 use Rattle.std.specs.Option.{option_map_or}
 use Rattle.std.specs.List.Sorted.{IsPartitionedBy, IsPartitionPoint}
 use Rattle.std.proofs.lemmas.List.{take_more, get_or_default, length_push, length-take-le, get_or-take, get_or_push}
@@ -14,7 +14,7 @@ use Rattle.dwarf_line.specs.LineRow.{last_at}
 use Rattle.sym_map.specs.declared.range.Cover.{Cover}
 use Rattle.sym_map.specs.declared.range.Range.{Range}
 use Rattle.sym_map.specs.declared.range.Cover.TheVariants as what
-use Rattle.sym_map.specs.Ranges.{start_of, cover_at}
+use Rattle.sym_map.specs.inner.Ranges.{start_of, cover_at}
 use Rattle.sym_map.specs.inner.Rising.{Rise}
 use Rattle.sym_map.specs.inner.Spans.{or_below, reach, IsPassed}
 
@@ -169,13 +169,6 @@ pub far_starts : (xs : List Range) → Rise xs → (i j : ℕ) (d : Range) → i
     → (get_or xs i d).start ≤ (get_or xs j d).start
 far_starts xs rise = IsNonDecreasingBy-from_all_adjacent (λ (r : Range). r.start) xs
     (λ k d lt. let up = rise k d lt in omega arith)
-
--- all starts are below an address that none reaches
-pub starts_below : (xs : List Range) (n : ℕ) → Rise xs → reach xs ≤ n → All (λ (r : Range). r.start < n) xs
-starts_below xs n rise within k d lt =
-    let last = reach_is xs d (omega arith) in
-    let le = far_starts xs rise k (length xs - 1) d (omega arith) (omega arith) in
-    omega arith
 
 pub cover_at-start : (xs : List Range) (k : ℕ) (d : Range) → Rise xs → k < length xs
     → cover_at xs (get_or xs k d).start ≡ (get_or xs k d).cover

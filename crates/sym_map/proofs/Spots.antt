@@ -10,8 +10,8 @@ use Rattle.std.proofs.lemmas.List.{take-append-le}
 use Rattle.std.proofs.Math.Seq.{take-length}
 use Rattle.event_costs.specs.Keys.{Place}
 use Rattle.sym_map.specs.declared.place_index.Spot.{Spot}
-use Rattle.sym_map.specs.AddressMap.{lines_by_address}
-use Rattle.sym_map.specs.Ranges.{AddressRanges}
+use Rattle.sym_map.specs.inner.Ranges.{lines_by_address}
+use Rattle.sym_map.specs.inner.Ranges.{AddressRanges}
 use Rattle.sym_map.specs.inner.Indexed.{AreIndexed, AreByAddress, IsSpot, lines_by_address_up_to}
 
 pub no_spots : (ranges : AddressRanges) (unknown : Place) (first : ℕ) → first < 2 ^ 32

@@ -2,12 +2,13 @@
 use Rattle.std.proofs.Common.{◌≡◌, ℕ, ◌+◌, ◌<◌, ◌≤◌, Bool, true, false, cond, leb, ltb, List, [], ◌∷◌, ◌++◌, length}
 use Rattle.std.proofs.Common.{get_or, take, map, Option, Some, None, refl, sym, ap, ◌∙◌, subst, Contains, ◌⊎◌, ⊎_elim}
 use Rattle.std.proofs.Common.{arith}
-use Rattle.std.specs.Prelude.{find, min, ◌&&◌, ◌||◌}
-use Rattle.std.specs.Option.{option_or}
+use Rattle.std.specs.Prelude.{find, min, nat_le, nat_lt, ◌&&◌, ◌||◌, ◌==◌}
+use Rattle.std.specs.Option.{option_map_or, option_or}
 use Rattle.std.specs.List.{list_any}
 use Rattle.std.proofs.lemmas.List.{take_more}
 use Rattle.std.proofs.lemmas.List.Folds.{find-append}
 use Rattle.std.proofs.lemmas.Bool.Decides.{nat_tests}
+use Rattle.elf_read.specs.declared.section.Section.{Section}
 use Rattle.elf_read.specs.declared.symbol.Symbol.{Symbol}
 use Rattle.elf_read.specs.Image.{Image}
 use Rattle.sym_map.specs.declared.range.Cover.{Cover}
@@ -18,7 +19,7 @@ use Rattle.sym_map.specs.declared.range.Label.{Label}
 use Rattle.sym_map.specs.declared.range.Span.{Span}
 use Rattle.sym_map.specs.declared.range.Cover.TheVariants as what
 use Rattle.sym_map.specs.inner.Spans.{or_below, span_cover, cover, label_cover}
-use Rattle.sym_map.specs.Symbols.{candidates, section_end, is_between, is_sized, covers_sized, covers_unsized}
+use Rattle.sym_map.specs.Symbols.{candidates, section_of, is_sized, covers_sized, covers_unsized}
 use Rattle.sym_map.proofs.Members.{Alike, Contains-map, Contains-from_map, Contains-cons, Contains-first, first_or_rest}
 use Rattle.sym_map.proofs.Spans.{or_below-assoc, or_below-nothing, cover-push}
 
@@ -105,6 +106,15 @@ module _ {X : Type 0} (p : X → Bool) where
   none_there [] fails = refl
   none_there (y ∷ ys) fails = rw (fails y (Contains-first y ys))
       (none_there ys (λ x h. fails x (Contains-cons y ys x h)))
+
+-- the first address behind a symbol's section
+abbrev section_end : Image → Symbol → ℕ
+section_end image symbol = option_map_or (λ (s : Section). s.addr + s.size) (section_of image symbol) 0
+
+-- the other is of the same section, and its value is greater and at or below the address
+abbrev is_between : ℕ → Symbol → Symbol → Bool
+is_between address symbol other =
+    other.section == symbol.section && nat_lt symbol.value other.value && nat_le other.value address
 
 -- another symbol isn't between, unless it is of the section and between the numbers
 not_between : (a : ℕ) (s t : Symbol) → (t.section ≡ s.section → s.value < t.value → a < t.value)

@@ -1,7 +1,7 @@
 -- The symbols of a whole symbol table.
 use Rattle.std.proofs.Common.{◌≡◌, ℕ, ◌<◌, ◌^◌, Bool, true, false, not, cond, List, [], ◌∷◌, length, map}
 use Rattle.std.proofs.Common.{Option, Some, None, option_map, refl, sym, ap, ◌∙◌, subst, arith, get_or, Contains}
-use Rattle.std.specs.Prelude.{All, filter, find, slice_get, ◌&&◌, nat_lt}
+use Rattle.std.specs.Prelude.{All, bit_and, filter, find, slice_get, ◌&&◌, ◌||◌, ◌==◌, nat_lt}
 use Rattle.std.specs.Option.{option_map_or, option_or}
 use Rattle.std.specs.Ordering.{is_lt}
 use Rattle.std.specs.List.{list_all}
@@ -10,7 +10,6 @@ use Rattle.std.proofs.lemmas.List.{get_or_default}
 use Rattle.std.proofs.lemmas.List.Sorted.{IsPermutation-map, IsPermutation-sym}
 use Rattle.std.proofs.lemmas.Option.{slice_get_within}
 use Rattle.elf_read.specs.declared.section.Section.{Section}
-use Rattle.elf_read.specs.Standard.{shn_undef, shn_loreserve}
 use Rattle.elf_read.specs.declared.symbol.Symbol.{Symbol}
 use Rattle.elf_read.specs.Image.{Image}
 use Rattle.event_costs.specs.declared.numbers.FileId.{FileId}
@@ -26,10 +25,10 @@ use Rattle.sym_map.specs.inner.Limits.{Limit, limit_of}
 use Rattle.sym_map.specs.inner.Naming.{NamedSymbol, NumberedSymbol, nameless, name_beside, is_preferred, candidates_with_names}
 use Rattle.sym_map.specs.inner.Spans.{or_below, cover, IsCutOf}
 use Rattle.sym_map.specs.inner.Shows.{Shows}
-use Rattle.sym_map.specs.Ranges.{symbol_of}
+use Rattle.sym_map.specs.inner.Ranges.{symbol_of}
 use Rattle.sym_map.specs.inner.SymbolTable.{IsSymbolOf}
-use Rattle.sym_map.specs.Symbols.{candidates, covers_sized, covers_unsized, best_of, is_best, symbol_at}
-use Rattle.sym_map.specs.Symbols.{is_candidate, may_be_code, is_executable, is_chosen_name, symbol_name, section_of}
+use Rattle.sym_map.specs.Symbols.{candidates, covers_sized, covers_unsized, best_of, symbol_at}
+use Rattle.sym_map.specs.Symbols.{is_candidate, is_chosen_name, symbol_name, section_of}
 use Rattle.sym_map.specs.Symbols.{preference}
 use Rattle.sym_map.specs.inner.SymbolTable.{symbol_key, unknown_key, AreSymbolsOf}
 use Rattle.sym_map.proofs.Members.{Alike, Alike-refl, Alike-trans, Alike-permutation, Alike-cons, Contains-map}
@@ -97,7 +96,7 @@ limits_alike image sorted placed moved symbols =
 -- a candidate's section is one of the file's
 candidate_within : (image : Image) (s : Symbol) → is_candidate image s ≡ true → s.section < length image.sections
 candidate_within image s passes =
-    go (may_be_code s) (is_chosen_name (symbol_name image s)) (section_of image s) refl passes
+    go (s.kind == 2 || s.kind == 0) (is_chosen_name (symbol_name image s)) (section_of image s) refl passes
   where
     inside : (b : Bool) (x : Section) → cond b (slice_get image.sections s.section) None ≡ Some x
         → s.section < length image.sections
@@ -105,8 +104,8 @@ candidate_within image s passes =
     inside false x e = absurd (cc)
 
     go : (a c : Bool) (o : Option Section) → section_of image s ≡ o
-        → (a && option_map_or is_executable o false && c) ≡ true → s.section < length image.sections
-    go a c (Some x) e h = inside (nat_lt shn_undef s.section && nat_lt s.section shn_loreserve) x e
+        → (a && option_map_or (λ (x : Section). not (bit_and x.flags 4 == 0)) o false && c) ≡ true → s.section < length image.sections
+    go a c (Some x) e h = inside (nat_lt 0 s.section && nat_lt s.section 0xff00) x e
     go true c None e h = absurd (cc)
     go false c None e h = absurd (cc)
 
@@ -166,7 +165,7 @@ best_named image f agree xs =
     let least : NamedSymbol → Bool = λ n. list_all (λ t. not (is_preferred t n)) (map f xs) in
     find-map f least xs
     ∙ ap (option_map f)
-    (find_same (λ s. least (f s)) (is_best image xs)
+    (find_same (λ s. least (f s)) (λ s. list_all (λ t. not (is_lt (preference image t s))) xs)
     (λ s. all-map f (λ t. not (is_preferred t (f s))) xs
     ∙ all_same (λ t. not (is_preferred (f t) (f s))) (λ t. not (is_lt (preference image t s)))
     (λ t. ap not (agree t s)) xs) xs)

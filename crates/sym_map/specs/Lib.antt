@@ -1,6 +1,5 @@
 pub mod Symbols
 pub mod Places
-pub mod Ranges
 pub mod FunctionOrder
 pub mod SymbolMap
 pub mod AddressMap

@@ -5,8 +5,7 @@ use Rattle.elf_read.specs.declared.symbol.Symbol.{Symbol}
 use Rattle.elf_read.specs.Image.{Image}
 use Rattle.dwarf_line.specs.Program.{SequenceOf}
 use Rattle.dwarf_line.specs.LineRow.{LineRow, line_at}
-use Rattle.byte_text.specs.Names as names
-use Rattle.byte_text.specs.Names.{clean_name}
+use Rattle.byte_text.specs.Names.{clean_name, unknown as unknown_name}
 use Rattle.sym_map.specs.Symbols.{symbol_name, candidates, symbol_at}
 
 -- What makes a function: the cleaned file of the line where it begins, and its cleaned name. Symbols with the same of
@@ -14,10 +13,6 @@ use Rattle.sym_map.specs.Symbols.{symbol_name, candidates, symbol_at}
 pub record Identity : Type 0 where
   pub file : List ℕ
   pub name : List ℕ
-
--- the text where no name is known
-abbrev pub unknown_name : List ℕ
-unknown_name = names.unknown
 
 -- the function of code without a symbol
 abbrev pub unknown_function : Identity
@@ -40,11 +35,9 @@ pub record Location : Type 0 where
 
 -- The place of an address: its function, and the file and line that it comes from.
 abbrev pub location_at : Image → List (SequenceOf LineRow) → ℕ → Location
-location_at image lines address = record {
-  function = function_at image lines address;
-  file = clean_name (line_at lines address).file;
-  line = (line_at lines address).line;
-}
+location_at image lines address =
+    let row = line_at lines address in
+    record { function = function_at image lines address; file = clean_name row.file; line = row.line }
 
 -- An entry address is the value of its own symbol.
 abbrev pub is_entry : Image → ℕ → Bool

@@ -1,44 +1,35 @@
 -- A map of symbols as contracts see it, and what it says.
-use Rattle.std.specs.Prelude.{◌≡◌, ℕ, ◌<◌, ◌^◌, Bool, false, ◌==◌, List, length, map, slice_get, slice_index_or, Option}
+use Rattle.std.specs.Prelude.{◌≡◌, ℕ, ◌<◌, ◌^◌, Bool, false, min, List, length, map, slice_get, slice_index_or, Option}
 use Rattle.std.specs.Prelude.{Some, None, All, AllPairs, ◌≢◌}
 use Rattle.std.specs.Option.{option_map_or}
-use Rattle.std.specs.List.Sorted.{IsStrictlySortedBy}
 use Rattle.std.specs.Ordering.{nat_cmp, ordering_then}
 use Rattle.std.specs.Cmp.Lexicographic.{slice_cmp}
 use Rattle.std.specs.declared.cmp.Ordering.{Ordering}
-use Rattle.byte_text.specs.Names.{clean_name}
+use Rattle.byte_text.specs.Names.{clean_name, unknown as unknown_name}
 use Rattle.event_costs.specs.declared.numbers.FileId.{FileId}
 use Rattle.event_costs.specs.declared.numbers.FuncId.{FuncId}
 use Rattle.event_costs.specs.Keys.{Place}
 use Rattle.sym_map.specs.declared.function.Function.{Function}
-use Rattle.sym_map.specs.declared.range.Here.{Here}
-use Rattle.sym_map.specs.Places.{Identity, Location, unknown_name, unknown_function}
-use Rattle.sym_map.specs.Ranges.{AddressRanges, here_at}
+use Rattle.sym_map.specs.Places.{Identity, Location, unknown_function}
 
 -- Functions by their numbers, each with the number of its file; files by their numbers; the entries of the functions;
--- ranges of addresses in rising order, those of symbols and those of lines; and the place of code without either.
+-- the place of each address of 32 bits, and whether the symbol of that address begins there; and the place of code
+-- without a symbol and a line.
 pub record SymbolMap : Type 0 where
   pub functions : List Function
   pub files : List (List ℕ)
   pub entries : List (Option ℕ)
-  pub ranges : AddressRanges
+  pub places : List Place
+  pub begins : List Bool
   pub unknown : Place
 
--- the place that is known of an address
-abbrev pub place_in : Place → Here → Place
-place_in unknown here = record {
-  func = option_map_or (λ symbol. symbol.func) here.symbol unknown.func;
-  file = option_map_or (λ line. line.file) here.line unknown.file;
-  line = option_map_or (λ line. line.line) here.line 0;
-}
-
--- the place of an address
+-- the place of an address; past the last one of 32 bits it is that one's
 unfoldable pub place_of : SymbolMap → ℕ → Place
-place_of m address = place_in m.unknown (here_at m.ranges address)
+place_of m address = slice_index_or m.places (min address 4294967295) m.unknown
 
 -- the symbol of the address begins there
 unfoldable pub is_entry_at : SymbolMap → ℕ → Bool
-is_entry_at m address = option_map_or (λ symbol. symbol.value == address) (here_at m.ranges address).symbol false
+is_entry_at m address = slice_index_or m.begins (min address 4294967295) false
 
 -- what makes a function
 abbrev pub identity_in : List (List ℕ) → Function → Identity
@@ -76,17 +67,9 @@ entry_line_of m func = option_map_or (λ entry. (place_of m entry).line) (entry_
 abbrev pub IsNamed : List Function → List ℕ → FuncId → Type 0
 IsNamed functions name func = slice_get (map (λ function. function.name) functions) func.0 ≡ Some name
 
--- texts in strictly rising order, by their bytes
-abbrev pub RiseByBytes : List (List ℕ) → Type 0
-RiseByBytes texts = IsStrictlySortedBy (slice_cmp nat_cmp) texts
-
 -- by the bytes of the file, and then by those of the name
 abbrev pub by_identity : Identity → Identity → Ordering
 by_identity x y = ordering_then (slice_cmp nat_cmp x.file y.file) (slice_cmp nat_cmp x.name y.name)
-
--- identities in strictly rising order
-abbrev pub RiseByIdentity : List Identity → Type 0
-RiseByIdentity identities = IsStrictlySortedBy by_identity identities
 
 -- a number of a function, and of a file
 abbrev pub IsFunc : SymbolMap → FuncId → Type 0

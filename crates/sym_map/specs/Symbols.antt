@@ -10,35 +10,28 @@ use Rattle.elf_read.specs.declared.section.Section.{Section}
 use Rattle.elf_read.specs.declared.symbol.Symbol.{Symbol}
 use Rattle.elf_read.specs.Image.{Image}
 use Rattle.elf_read.specs.Strings.{part_of}
-use Rattle.elf_read.specs.Standard.{shn_undef, shn_loreserve, shf_execinstr, stt_notype, stt_func, stb_global, stb_weak}
 
 -- the bytes of its name
 abbrev pub symbol_name : Image → Symbol → List ℕ
 symbol_name image symbol = part_of image.bytes symbol.name
 
--- The section st_shndx. The index SHN_UNDEF and those from SHN_LORESERVE on name no section.
+-- The section st_shndx. The index SHN_UNDEF (0) and those from SHN_LORESERVE (0xff00) on name no section.
 abbrev pub section_of : Image → Symbol → Option Section
 section_of image symbol =
-    if nat_lt shn_undef symbol.section && nat_lt symbol.section shn_loreserve then slice_get image.sections
-    symbol.section else None
-
-abbrev pub is_executable : Section → Bool
-is_executable section = not (bit_and section.flags shf_execinstr == 0)
-
--- it is a function, or of no type
-abbrev pub may_be_code : Symbol → Bool
-may_be_code symbol = symbol.kind == stt_func || symbol.kind == stt_notype
+    if nat_lt 0 symbol.section && nat_lt symbol.section 0xff00 then slice_get image.sections symbol.section else None
 
 -- A name that an assembler makes for itself begins with `$` or `.L`.
 abbrev pub is_chosen_name : List ℕ → Bool
 is_chosen_name name =
     not (length name == 0) && not (starts_with nat_eq name (codes "$")) && not (starts_with nat_eq name (codes ".L"))
 
--- a symbol that may stand for code
+-- A symbol that may stand for code: it is a function (STT_FUNC 2) or of no type (STT_NOTYPE 0), its section has code
+-- (SHF_EXECINSTR 4), and its name is chosen.
 abbrev pub is_candidate : Image → Symbol → Bool
 is_candidate image symbol =
-    may_be_code symbol && option_map_or is_executable (section_of image symbol) false && is_chosen_name
-    (symbol_name image symbol)
+    (symbol.kind == 2 || symbol.kind == 0)
+    && option_map_or (λ section. not (bit_and section.flags 4 == 0)) (section_of image symbol) false
+    && is_chosen_name (symbol_name image symbol)
 
 -- the candidates, in the order of the symbol table
 unfoldable pub candidates : Image → List Symbol
@@ -46,31 +39,25 @@ candidates image = filter (is_candidate image) image.symbols
 
 -- a function whose size is known
 abbrev pub is_sized : Symbol → Bool
-is_sized symbol = symbol.kind == stt_func && nat_lt 0 symbol.size
+is_sized symbol = symbol.kind == 2 && nat_lt 0 symbol.size
 
 -- a sized candidate covers as many bytes as its size says
 abbrev pub covers_sized : ℕ → Symbol → Bool
 covers_sized address symbol = is_sized symbol && nat_le symbol.value address && nat_lt address
     (symbol.value + symbol.size)
 
--- the first address behind its section
-abbrev pub section_end : Image → Symbol → ℕ
-section_end image symbol = option_map_or (λ section. section.addr + section.size) (section_of image symbol) 0
-
--- the other is of the same section, and its value is greater and at or below the address
-abbrev pub is_between : ℕ → Symbol → Symbol → Bool
-is_between address symbol other =
-    other.section == symbol.section && nat_lt symbol.value other.value && nat_le other.value address
-
--- any other candidate covers up to its section's next greater value, and not past the section
+-- Any other candidate covers the addresses of its section from its value up to the next greater value of a candidate of
+-- the section.
 abbrev pub covers_unsized : Image → ℕ → Symbol → Bool
 covers_unsized image address symbol =
-    not (is_sized symbol) && nat_le symbol.value address && nat_lt address (section_end image symbol)
-    && not (list_any (is_between address symbol) (candidates image))
+    not (is_sized symbol) && nat_le symbol.value address
+    && nat_lt address (option_map_or (λ section. section.addr + section.size) (section_of image symbol) 0)
+    && not (list_any (λ other. other.section == symbol.section && nat_lt symbol.value other.value
+    && nat_le other.value address) (candidates image))
 
--- global symbols come before weak ones, and these before all others
+-- global symbols (STB_GLOBAL 1) come before weak ones (STB_WEAK 2), and these before all others
 abbrev pub binding_rank : ℕ → ℕ
-binding_rank binding = if binding == stb_global then 0 else if binding == stb_weak then 1 else 2
+binding_rank binding = if binding == 1 then 0 else if binding == 2 then 1 else 2
 
 -- Of two symbols the first is preferred where this is `Less`: by the greater value, then by the binding, then by the
 -- lesser name.
@@ -80,13 +67,10 @@ preference image x y =
     (ordering_then (nat_cmp (binding_rank x.binding) (binding_rank y.binding))
     (slice_cmp nat_cmp (symbol_name image x) (symbol_name image y)))
 
--- no other symbol is preferred to it
-abbrev pub is_best : Image → List Symbol → Symbol → Bool
-is_best image symbols symbol = list_all (λ other. not (is_lt (preference image other symbol))) symbols
-
 -- the first of several to which no other is preferred
 abbrev pub best_of : Image → List Symbol → Option Symbol
-best_of image symbols = find (is_best image symbols) symbols
+best_of image symbols =
+    find (λ symbol. list_all (λ other. not (is_lt (preference image other symbol))) symbols) symbols
 
 -- The symbol of an address: the best of the sized ones that cover it, and where none does, the best of the others.
 unfoldable pub symbol_at : Image → ℕ → Option Symbol

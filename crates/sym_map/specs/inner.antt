@@ -9,6 +9,7 @@ pub mod NameKeys
 pub mod Naming
 pub mod Nearby
 pub mod Piles
+pub mod Ranges
 pub mod Ranking
 pub mod Rising
 pub mod Rows

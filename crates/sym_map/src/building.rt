@@ -3,8 +3,10 @@
 ghost use Rattle.std.specs.Prelude.{◌≡◌, ◌<◌, ◌^◌, ◌↔◌, ℕ, IfOk, Contains};
 ghost use Rattle.dwarf_line.specs.Rows.{sequences_of};
 ghost use Rattle.sym_map.specs.SymbolMap.{identities, identity_of, location_of, place_of, is_entry_at};
-ghost use Rattle.sym_map.specs.SymbolMap.{entry_of, IsFunc, RiseByIdentity};
-ghost use Rattle.sym_map.specs.SymbolMap.{RiseByBytes};
+ghost use Rattle.sym_map.specs.SymbolMap.{by_identity, entry_of, IsFunc};
+ghost use Rattle.std.specs.Cmp.Lexicographic.{slice_cmp};
+ghost use Rattle.std.specs.List.Sorted.{IsStrictlySortedBy};
+ghost use Rattle.std.specs.Ordering.{nat_cmp};
 ghost use Rattle.sym_map.specs.Places.{Identity, functions_of, files_of, location_at, is_entry, IsEntryOf};
 ghost use Rattle.event_costs.specs.declared.numbers.FuncId.{FuncId as FuncIdValue};
 ghost use Rattle.std.specs.Prelude.{List};
@@ -35,10 +37,10 @@ pub fn build(alloc: Global, elf: &Elf<'_>, rows: &Rows) -> Result<SymMap, OutOfM
     // functions are the pairs of file and name, each once, in the order of the files' bytes and then of the names'
     ensures functions { IfOk result (λ m. (identity : Identity)
         → Contains (identities m) identity ↔ Contains (functions_of elf.now (sequences_of rows.now)) identity) }
-    ensures functions_rise { IfOk result (λ m. RiseByIdentity (identities m)) }
+    ensures functions_rise { IfOk result (λ m. IsStrictlySortedBy by_identity (identities m)) }
     ensures files { IfOk result (λ m. (name : List ℕ)
         → Contains m.files name ↔ Contains (files_of (sequences_of rows.now)) name) }
-    ensures files_rise { IfOk result (λ m. RiseByBytes m.files) }
+    ensures files_rise { IfOk result (λ m. IsStrictlySortedBy (slice_cmp nat_cmp) m.files) }
 {
     let lines = read_lines(alloc, rows)?;
     let symbols = read_symbols(alloc, elf, &lines)?;

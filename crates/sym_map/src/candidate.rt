@@ -1,12 +1,12 @@
 //! The symbols that may stand for code.
 
-ghost use Rattle.std.specs.Prelude.{◌≡◌, ◌<◌, ◌^◌, IfOk, All, length, map};
+ghost use Rattle.std.specs.Prelude.{◌≡◌, ◌<◌, ◌^◌, ◌==◌, ◌||◌, IfOk, All, bit_and, length, map, not};
 ghost use Rattle.elf_read.specs.Strings.{IsPart};
 ghost use Rattle.std.specs.Ordering.{nat_cmp, ordering_then};
 ghost use Rattle.sym_map.specs.inner.Naming.{place_of_text};
 ghost use Rattle.name_numbers.specs.Texts.{IsInFile};
 ghost use Rattle.sym_map.specs.inner.Naming.{nameless};
-ghost use Rattle.sym_map.specs.Symbols.{section_of, is_executable, may_be_code, is_chosen_name, candidates};
+ghost use Rattle.sym_map.specs.Symbols.{section_of, is_chosen_name, candidates};
 ghost use Rattle.sym_map.specs.Symbols.{is_candidate, is_sized, binding_rank};
 
 use crate::nameless::Nameless;
@@ -34,13 +34,13 @@ pub(crate) fn section_of(elf: &Elf<'_>, symbol: &Symbol) -> Option<Section>
 }
 
 fn is_executable(section: &Section) -> bool
-    ensures { result ≡ is_executable section.now }
+    ensures { result ≡ not (bit_and section.now.flags 4 == 0) }
 {
     section.flags & SHF_EXECINSTR != 0
 }
 
 fn may_be_code(symbol: &Symbol) -> bool
-    ensures { result ≡ may_be_code symbol.now }
+    ensures { result ≡ (symbol.now.kind == 2 || symbol.now.kind == 0) }
 {
     symbol.kind == STT_FUNC || symbol.kind == STT_NOTYPE
 }

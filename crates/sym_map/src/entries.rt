@@ -3,7 +3,7 @@
 ghost use Rattle.std.specs.Prelude.{◌≡◌, ◌<◌, ◌^◌, ℕ, IfOk, OnOk, IfSome, Some, None, All, length};
 ghost use Rattle.std.specs.Prelude.{find, option_map, slice_set, slice_index_or, MatchOption};
 ghost use Rattle.std.specs.Option.{option_or};
-ghost use Rattle.sym_map.specs.Ranges.{cover_at, symbol_of};
+ghost use Rattle.sym_map.specs.inner.Ranges.{cover_at, symbol_of};
 ghost use Rattle.sym_map.specs.inner.Rising.{Rise};
 ghost use Rattle.sym_map.specs.inner.Entries.{entered_func, enters, start_of_first};
 

@@ -1,7 +1,7 @@
 //! What is known of all addresses.
 
 ghost use Rattle.std.specs.Prelude.{◌≡◌, ◌≤◌, IfOk, length};
-ghost use Rattle.sym_map.specs.Ranges.{here_at, line_or_address};
+ghost use Rattle.sym_map.specs.inner.Ranges.{here_at, line_or_address};
 ghost use Rattle.sym_map.specs.inner.Rising.{AllRise};
 ghost use Rattle.sym_map.specs.inner.Nearby.{here_by};
 
@@ -21,7 +21,7 @@ pub(crate) struct Ranges {
 }
 
 impl Model for Ranges {
-    ghost use Rattle.sym_map.specs.Ranges.{AddressRanges};
+    ghost use Rattle.sym_map.specs.inner.Ranges.{AddressRanges};
 
     ghost Value = { AddressRanges };
 

@@ -2,7 +2,7 @@
 
 ghost use Rattle.std.specs.Prelude.{◌≡◌, ◌+◌, ◌<◌, ◌≤◌, ℕ, length, take, IfOk};
 ghost use Rattle.std.specs.Prelude.{slice_index_or};
-ghost use Rattle.sym_map.specs.Ranges.{cover_at};
+ghost use Rattle.sym_map.specs.inner.Ranges.{cover_at};
 ghost use Rattle.sym_map.specs.inner.Rising.{Rise};
 ghost use Rattle.sym_map.specs.inner.Spans.{IsMergeOf, IsPassed, IsNextStart};
 ghost use Rattle.sym_map.specs.declared.range.Range.{Range as RangeValue};

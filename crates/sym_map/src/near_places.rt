@@ -1,7 +1,7 @@
 //! Places of addresses that were looked up before.
 
 ghost use Rattle.std.specs.Prelude.{◌≡◌, ◌<◌, length};
-ghost use Rattle.sym_map.specs.Ranges.{here_at};
+ghost use Rattle.sym_map.specs.inner.Ranges.{here_at};
 ghost use Rattle.sym_map.specs.inner.Rising.{AllRise};
 ghost use Rattle.sym_map.specs.SymbolMap.{IsFile, IsFunc, place_of};
 ghost use Rattle.sym_map.specs.inner.Nearby.{here_by};
@@ -42,7 +42,6 @@ impl NearPlaces {
     }
 
     /// The place of an address, which is as `SymMap::place` says. It takes no memory.
-    #[tactic(auto, unfolding(crate::specs::SymbolMap::place_of))]
     #[inline(always)]
     pub fn place(&mut self, syms: &SymMap, pc: u32) -> Place
         ensures place { result ≡ place_of syms.now pc }

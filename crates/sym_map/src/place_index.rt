@@ -2,10 +2,10 @@
 
 ghost use Rattle.std.specs.Prelude.{◌≡◌, ◌<◌, ◌≤◌, ◌+◌, ◌*◌, ◌^◌, ℕ, IfOk, IfSome, List, length};
 ghost use Rattle.event_costs.specs.Keys.{Place as PlaceValue};
-ghost use Rattle.sym_map.specs.Ranges.{AddressRanges, here_at};
+ghost use Rattle.sym_map.specs.inner.Ranges.{AddressRanges, here_at};
 ghost use Rattle.sym_map.specs.inner.Rising.{AllRise};
-ghost use Rattle.sym_map.specs.SymbolMap.{place_in};
-ghost use Rattle.sym_map.specs.AddressMap.{lines_by_address};
+ghost use Rattle.sym_map.specs.inner.Ranges.{place_in};
+ghost use Rattle.sym_map.specs.inner.Ranges.{lines_by_address};
 ghost use Rattle.sym_map.specs.inner.Indexed.{AreAlike, AreIndexed, IsSpot};
 
 use crate::known_ranges::{Near, Ranges};

@@ -1,7 +1,7 @@
 //! Ranges of addresses, and what is seen of each.
 
 ghost use Rattle.std.specs.Prelude.{◌≡◌, ◌≤◌, length};
-ghost use Rattle.sym_map.specs.Ranges.{line_of, cover_at, symbol_of};
+ghost use Rattle.sym_map.specs.inner.Ranges.{line_of, cover_at, symbol_of};
 ghost use Rattle.sym_map.specs.inner.Rising.{Rise};
 ghost use Rattle.sym_map.specs.inner.Nearby.{is_held, cover_by_number};
 ghost use Rattle.sym_map.specs.inner.Spans.{is_nothing, or_below, label_cover};

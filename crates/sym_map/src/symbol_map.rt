@@ -2,9 +2,9 @@
 
 ghost use Rattle.std.specs.Prelude.{◌≡◌, ◌<◌, ◌↔◌, IfOk, IfSome, Contains, length, slice_get, Some, false};
 ghost use Rattle.sym_map.specs.SymbolMap.{place_of, is_entry_at, entry_of, entry_line_of, home_of, identity_of};
-ghost use Rattle.sym_map.specs.SymbolMap.{file_text, IsFunc, IsFile, IsNamed, place_in};
-ghost use Rattle.sym_map.specs.AddressMap.{address_map};
-ghost use Rattle.sym_map.specs.Ranges.{address_line, no_file};
+ghost use Rattle.sym_map.specs.SymbolMap.{file_text, IsFunc, IsFile, IsNamed};
+ghost use Rattle.sym_map.specs.inner.Ranges.{place_in};
+ghost use Rattle.sym_map.specs.AddressMap.{address_line, address_map, no_file};
 ghost use Rattle.std.specs.Prelude.{ℕ};
 ghost use Rattle.event_costs.specs.declared.numbers.FuncId.{FuncId as FuncIdValue};
 
@@ -45,16 +45,11 @@ pub struct SymMap {
 impl Model for SymMap {
     ghost use Rattle.sym_map.specs.SymbolMap.{SymbolMap};
     ghost use Rattle.sym_map.specs.inner.Maps.{IsMap};
+    ghost use Rattle.sym_map.specs.inner.Ranges.{map_of};
 
     ghost Value = { SymbolMap };
 
-    ghost view = { λ m. record {
-      functions = m.functions;
-      files = m.files.items;
-      entries = m.entries.items;
-      ranges = m.ranges;
-      unknown = m.unknown;
-    } };
+    ghost view = { λ m. map_of m.functions m.files.items m.entries.items m.ranges m.unknown };
 
     ghost use Rattle.sym_map.specs.inner.Indexed.{AreIndexed};
 
@@ -86,7 +81,6 @@ impl SymMap {
 
     /// The map that tells code by its addresses: each address is a line of its own, in the first file. Functions and
     /// entries stay. It takes no memory.
-    #[tactic(auto, unfolding(crate::specs::AddressMap::address_map, crate::specs::SymbolMap::place_of, crate::specs::SymbolMap::is_entry_at))]
     pub fn by_address(self) -> SymMap
         ensures map { result ≡ address_map self }
         ensures places { (address : ℕ) → place_of result address
@@ -107,7 +101,6 @@ impl SymMap {
 
     /// The function of an address, and the file and line that it comes from. Code without a symbol is of the function
     /// `???` in the file `???`, and code without a line is at line 0 of the file `???`. It takes no memory.
-    #[tactic(auto, unfolding(crate::specs::SymbolMap::place_of))]
     pub fn place(&self, pc: u32) -> Place
         ensures place { result ≡ place_of self.now pc }
         ensures func_known { IsFunc self.now result.func }
@@ -120,7 +113,6 @@ impl SymMap {
     }
 
     /// The place of an address, where it is found without a search. It takes no memory.
-    #[tactic(auto, unfolding(crate::specs::SymbolMap::place_of))]
     #[inline(always)]
     pub fn indexed_place(&self, pc: u32) -> Option<Place>
         ensures { IfSome result (λ place. place ≡ place_of self.now pc) }
@@ -129,7 +121,6 @@ impl SymMap {
     }
 
     /// What `way` answers, where it is found without a search and stays in one function. It takes no memory.
-    #[tactic(auto, unfolding(crate::specs::SymbolMap::place_of))]
     #[inline(always)]
     pub fn way_within(&self, pc: u32, next: u32) -> Option<Way>
         ensures place { IfSome result (λ way. way.place ≡ place_of self.now pc) }
@@ -154,7 +145,6 @@ impl SymMap {
     }
 
     /// Whether the symbol of the address has the address as its value. It takes no memory.
-    #[tactic(auto, unfolding(crate::specs::SymbolMap::is_entry_at))]
     pub fn is_entry(&self, pc: u32) -> bool
         ensures { result ≡ is_entry_at self.now pc }
     {

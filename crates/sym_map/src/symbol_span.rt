@@ -1,11 +1,12 @@
 //! Symbols as spans of addresses.
 
-ghost use Rattle.std.specs.Prelude.{◌≡◌, ◌<◌, ◌&&◌, ◌↔◌, ℕ, Some, None, false, nat_le};
+ghost use Rattle.std.specs.Prelude.{◌≡◌, ◌<◌, ◌+◌, ◌&&◌, ◌↔◌, ℕ, Some, None, false, nat_le};
 ghost use Rattle.std.specs.Prelude.{nat_lt, IfOk, OnOk, All, Contains, List, length, map};
+ghost use Rattle.std.specs.Option.{option_map_or};
 ghost use Rattle.sym_map.specs.inner.Functions.{first_cover, symbol_cover};
 ghost use Rattle.sym_map.specs.inner.Limits.{Limit, limit_of, Fall, IsNextValue};
 ghost use Rattle.sym_map.specs.inner.Spans.{or_below, cover, label_cover};
-ghost use Rattle.sym_map.specs.Symbols.{candidates, covers_sized, covers_unsized, section_end, is_sized};
+ghost use Rattle.sym_map.specs.Symbols.{candidates, covers_sized, covers_unsized, section_of, is_sized};
 
 use crate::candidate::{is_sized, section_of};
 use crate::limit::Limits;
@@ -28,7 +29,7 @@ fn label_of(placed: &Nameless) -> Label
 
 /// The first address behind the section of a symbol.
 pub(crate) fn section_end(elf: &Elf<'_>, symbol: &Symbol) -> u64
-    ensures { result ≡ section_end elf.now symbol.now }
+    ensures { result ≡ option_map_or (λ section. section.addr + section.size) (section_of elf.now symbol.now) 0 }
 {
     match section_of(elf, symbol) {
         Some(section) => u64::from(section.addr) + u64::from(section.size),

@@ -3,7 +3,7 @@ use Rattle.std.specs.Prelude.{ℕ, Bool, false, ◌==◌, if◌then◌else◌, L
 use Rattle.std.specs.Option.{option_and_then, option_map_or}
 use Rattle.event_costs.specs.declared.numbers.FuncId.{FuncId}
 use Rattle.sym_map.specs.declared.range.Range.{Range}
-use Rattle.sym_map.specs.Ranges.{symbol_of}
+use Rattle.sym_map.specs.inner.Ranges.{symbol_of}
 
 -- the function whose symbol has the range's start as its value
 abbrev pub entered_func : Range → Option FuncId

@@ -9,7 +9,7 @@ use Rattle.sym_map.specs.declared.range.Range.{Range}
 use Rattle.sym_map.specs.declared.range.Cover.{Cover}
 use Rattle.sym_map.specs.declared.range.Cover.TheVariants as what
 use Rattle.sym_map.specs.inner.Naming.{NamedSymbol, NumberedSymbol}
-use Rattle.sym_map.specs.Ranges.{line_of, cover_at}
+use Rattle.sym_map.specs.inner.Ranges.{line_of, cover_at}
 
 -- the number of the file in which an address's line is
 abbrev pub home_at : List Range → FileId → ℕ → FileId

@@ -2,9 +2,9 @@
 use Rattle.std.specs.Prelude.{◌≡◌, ℕ, ◌+◌, ◌*◌, ◌<◌, ◌^◌, List, length, nat_lt, slice_index_or, if◌then◌else◌}
 use Rattle.event_costs.specs.Keys.{Place}
 use Rattle.sym_map.specs.declared.place_index.Spot.{Spot}
-use Rattle.sym_map.specs.AddressMap.{lines_by_address}
-use Rattle.sym_map.specs.Ranges.{AddressRanges, here_at}
-use Rattle.sym_map.specs.SymbolMap.{place_in}
+use Rattle.sym_map.specs.inner.Ranges.{lines_by_address}
+use Rattle.sym_map.specs.inner.Ranges.{AddressRanges, here_at}
+use Rattle.sym_map.specs.inner.Ranges.{place_in}
 
 -- the instructions of the spot's stretch are of the function of its place
 abbrev pub AreAlike : AddressRanges → Place → Spot → Type 0

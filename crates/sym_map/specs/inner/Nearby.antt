@@ -6,7 +6,7 @@ use Rattle.sym_map.specs.declared.range.Range.{Range}
 use Rattle.sym_map.specs.declared.range.Cover.{Cover}
 use Rattle.sym_map.specs.declared.range.Cover.TheVariants as what
 use Rattle.sym_map.specs.declared.known_ranges.Near.{Near}
-use Rattle.sym_map.specs.Ranges.{AddressRanges, line_or_address, symbol_of}
+use Rattle.sym_map.specs.inner.Ranges.{AddressRanges, line_or_address, symbol_of}
 
 -- a range of which nothing is known
 abbrev pub no_range : Range

@@ -1,6 +1,6 @@
 -- Ranges in rising order.
 use Rattle.std.specs.Prelude.{ℕ, ◌+◌, ◌<◌, List, length, slice_index_or}
-use Rattle.sym_map.specs.Ranges.{AddressRanges}
+use Rattle.sym_map.specs.inner.Ranges.{AddressRanges}
 use Rattle.sym_map.specs.declared.range.Range.{Range}
 
 -- each begins above the one before

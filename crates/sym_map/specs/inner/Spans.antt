@@ -8,7 +8,7 @@ use Rattle.sym_map.specs.declared.range.Label.TheVariants as label
 use Rattle.sym_map.specs.declared.range.Cover.{Cover}
 use Rattle.sym_map.specs.declared.range.Cover.TheVariants as what
 use Rattle.sym_map.specs.declared.range.Span.{Span}
-use Rattle.sym_map.specs.Ranges.{cover_at}
+use Rattle.sym_map.specs.inner.Ranges.{cover_at}
 use Rattle.sym_map.specs.inner.Rising.{Rise}
 
 -- what is seen where one lies over the other

@@ -11,8 +11,8 @@ use Rattle.sym_map.specs.declared.range.SymbolHere.{SymbolHere}
 use Rattle.sym_map.specs.FunctionOrder.{by_function}
 use Rattle.sym_map.specs.inner.Functions.{key_of}
 use Rattle.sym_map.specs.inner.Naming.{with_name}
-use Rattle.sym_map.specs.Places.{unknown_name}
-use Rattle.sym_map.specs.Ranges.{cover_at, symbol_of}
+use Rattle.byte_text.specs.Names.{unknown as unknown_name}
+use Rattle.sym_map.specs.inner.Ranges.{cover_at, symbol_of}
 use Rattle.sym_map.specs.inner.Rising.{Rise}
 use Rattle.sym_map.specs.inner.Shows.{Shows}
 use Rattle.sym_map.specs.Symbols.{candidates, symbol_at}

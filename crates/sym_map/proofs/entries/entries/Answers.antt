@@ -9,7 +9,7 @@ use Rattle.std.proofs.Math.ListN.{set}
 use Rattle.event_costs.specs.declared.numbers.FuncId.{FuncId}
 use Rattle.sym_map.specs.inner.Entries.{entered_func}
 use Rattle.sym_map.specs.declared.range.Cover.TheVariants as what
-use Rattle.sym_map.specs.Ranges.{cover_at, symbol_of}
+use Rattle.sym_map.specs.inner.Ranges.{cover_at, symbol_of}
 use Rattle.sym_map.specs.inner.Rising.{Rise}
 use Rattle.sym_map.proofs.Ranges.{cover_at-start}
 use Rattle.sym_map.proofs.EntryTables.{noted, unentered, entered_symbol}

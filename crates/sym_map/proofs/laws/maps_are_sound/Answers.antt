@@ -4,4 +4,4 @@ use Rattle.sym_map.proofs.Soundness.{sound}
 use Rattle.sym_map.proofs.laws.maps_are_sound.Goals as goal
 
 pub returns : goal.returns
-returns c = subst IsSound c.syms.view_is (sound _ c.syms.invariant.0)
+returns c = subst IsSound c.syms.view_is (sound _ _ _ _ _ c.syms.invariant.0)

@@ -1,5 +1,5 @@
 use Rattle.std.proofs.Common.{◌≡◌, ◌+◌, ◌-◌, ◌≤◌, ◌^◌, ℕ, length, take}
-use Rattle.sym_map.specs.Ranges.{cover_at}
+use Rattle.sym_map.specs.inner.Ranges.{cover_at}
 use Rattle.sym_map.specs.inner.Rising.{Rise}
 use Rattle.sym_map.specs.inner.Spans.{IsPassed, or_below, reach}
 use Rattle.sym_map.proofs.merge.merge.Given as goal

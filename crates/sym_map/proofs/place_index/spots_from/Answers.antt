@@ -1,7 +1,7 @@
 use Rattle.std.proofs.Common.{◌≡◌, ◌<◌, ◌+◌, ◌*◌, ◌^◌, ◌++◌, ◌∷◌, [], ℕ, length, ap, subst, sym, drop, ◌∙◌}
 use Rattle.std.proofs.Common.{length-append, arith}
-use Rattle.sym_map.specs.Ranges.{here_at}
-use Rattle.sym_map.specs.SymbolMap.{place_in}
+use Rattle.sym_map.specs.inner.Ranges.{here_at}
+use Rattle.sym_map.specs.inner.Ranges.{place_in}
 use Rattle.sym_map.specs.inner.Indexed.{AreIndexed, IsSpot}
 use Rattle.sym_map.specs.declared.place_index.Spot.{Spot}
 use Rattle.sym_map.proofs.Spots.{spots_pushed, whole_part}

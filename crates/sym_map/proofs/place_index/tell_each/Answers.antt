@@ -1,5 +1,5 @@
 use Rattle.std.proofs.Common.{◌≡◌, ◌<◌, ◌+◌, ◌*◌, ◌%◌, ◌^◌, ℕ, length, subst, sym, arith}
-use Rattle.sym_map.specs.AddressMap.{lines_by_address}
+use Rattle.sym_map.specs.inner.Ranges.{lines_by_address}
 use Rattle.sym_map.specs.inner.Indexed.{IsSpot}
 use Rattle.sym_map.proofs.Spots.{all_by_address, next_left, next_by_address, none_by_address}
 use Rattle.sym_map.proofs.place_index.tell_each.Goals as goal

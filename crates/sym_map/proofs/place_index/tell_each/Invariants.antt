@@ -1,6 +1,6 @@
-use Rattle.std.proofs.Common.{◌≡◌, ◌+◌, ◌*◌, ℕ}
+use Rattle.std.proofs.Common.{◌≡◌, ◌+◌, ◌*◌}
 use Rattle.event_costs.specs.Keys.{Place}
-use Rattle.sym_map.specs.Ranges.{AddressRanges}
+use Rattle.sym_map.specs.inner.Ranges.{AddressRanges}
 use Rattle.sym_map.specs.inner.Indexed.{AreIndexed, AreByAddress}
 use Rattle.sym_map.proofs.place_index.tell_each.Given as goal
 

@@ -1,6 +1,6 @@
 use Rattle.std.proofs.Common.{ℕ}
 use Rattle.event_costs.specs.Keys.{Place}
-use Rattle.sym_map.specs.Ranges.{AddressRanges}
+use Rattle.sym_map.specs.inner.Ranges.{AddressRanges}
 use Rattle.sym_map.specs.inner.Indexed.{AreIndexed}
 use Rattle.sym_map.proofs.place_index.widen.Given as goal
 

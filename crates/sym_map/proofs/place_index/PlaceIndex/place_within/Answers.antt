@@ -1,6 +1,6 @@
 use Rattle.std.proofs.Common.{◌≡◌, ◌<◌, ◌+◌, ◌*◌, length, vec_len, sym, ap, subst, ◌∙◌, arith}
-use Rattle.sym_map.specs.Ranges.{here_at}
-use Rattle.sym_map.specs.SymbolMap.{place_in}
+use Rattle.sym_map.specs.inner.Ranges.{here_at}
+use Rattle.sym_map.specs.inner.Ranges.{place_in}
 use Rattle.sym_map.specs.declared.place_index.Spot.{Spot}
 use Rattle.sym_map.specs.inner.Indexed.{IsSpot}
 use Rattle.sym_map.proofs.place_index.PlaceIndex.place_within.Goals as goal

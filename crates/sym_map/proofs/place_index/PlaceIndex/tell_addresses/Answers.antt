@@ -1,5 +1,5 @@
 use Rattle.std.proofs.Common.{◌≡◌, length, drop, subst, sym, arith}
-use Rattle.sym_map.specs.AddressMap.{lines_by_address}
+use Rattle.sym_map.specs.inner.Ranges.{lines_by_address}
 use Rattle.sym_map.specs.inner.Indexed.{AreIndexed}
 use Rattle.sym_map.proofs.Spots.{whole_part}
 use Rattle.sym_map.proofs.place_index.PlaceIndex.tell_addresses.Goals as goal

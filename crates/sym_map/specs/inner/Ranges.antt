@@ -1,20 +1,27 @@
 -- Ranges of addresses in rising order, with what is seen from each one's start up to the next one's.
-use Rattle.std.specs.Prelude.{ℕ, Bool, true, false, min, List, Option, Some, None}
+use Rattle.std.specs.Prelude.{ℕ, ◌^◌, Bool, true, false, ◌==◌, List, Option, Some, None}
 use Rattle.std.specs.Option.{option_map_or}
-use Rattle.event_costs.specs.declared.numbers.FileId.{FileId}
+use Rattle.event_costs.specs.Keys.{Place}
 use Rattle.dwarf_line.specs.LineRow.{last_at}
+use Rattle.sym_map.specs.declared.function.Function.{Function}
 use Rattle.sym_map.specs.declared.range.Here.{Here}
 use Rattle.sym_map.specs.declared.range.LineHere.{LineHere}
 use Rattle.sym_map.specs.declared.range.Range.{Range}
 use Rattle.sym_map.specs.declared.range.Cover.{Cover}
 use Rattle.sym_map.specs.declared.range.Cover.TheVariants as what
 use Rattle.sym_map.specs.declared.range.SymbolHere.{SymbolHere}
+use Rattle.sym_map.specs.AddressMap.{address_line, no_file, told}
+use Rattle.sym_map.specs.SymbolMap.{SymbolMap}
 
 -- the ranges of the symbols, and those of the lines; and whether each address is a line of its own in their place
 pub record AddressRanges : Type 0 where
   pub symbols : List Range
   pub lines : List Range
   pub by_address : Bool
+
+-- the same, where each address is a line of its own
+abbrev pub lines_by_address : AddressRanges → AddressRanges
+lines_by_address ranges = record ranges { by_address = true }
 
 abbrev pub start_of : Range → ℕ
 start_of range = range.start
@@ -35,14 +42,6 @@ line_of what.Nothing = None
 line_of (what.Symbol symbol) = None
 line_of (what.Line line) = Some line
 
--- no file: the address stands for it
-abbrev pub no_file : FileId
-no_file = record { 0 = 0 }
-
--- the line of an address is the address; past the last one of 32 bits it is the last one
-abbrev pub address_line : ℕ → ℕ
-address_line address = min address 4294967295
-
 -- the line of an address at which this is seen, where each address is a line of its own, or not
 abbrev pub line_or_address : Bool → ℕ → Cover → Option LineHere
 line_or_address true address cover = Some (record { file = no_file; line = address_line address })
@@ -53,4 +52,27 @@ abbrev pub here_at : AddressRanges → ℕ → Here
 here_at ranges address = record {
   symbol = symbol_of (cover_at ranges.symbols address);
   line = line_or_address ranges.by_address address (cover_at ranges.lines address);
+}
+
+-- the place that is known of an address; this one has neither a symbol nor a line
+abbrev pub place_in : Place → Here → Place
+place_in unknown here = record {
+  func = option_map_or (λ symbol. symbol.func) here.symbol unknown.func;
+  file = option_map_or (λ line. line.file) here.line unknown.file;
+  line = option_map_or (λ line. line.line) here.line 0;
+}
+
+-- the symbol that is known of an address begins there
+abbrev pub begins_at : ℕ → Here → Bool
+begins_at address here = option_map_or (λ symbol. symbol.value == address) here.symbol false
+
+-- the map that says what the ranges do
+abbrev pub map_of : List Function → List (List ℕ) → List (Option ℕ) → AddressRanges → Place → SymbolMap
+map_of functions files entries ranges unknown = record {
+  functions = functions;
+  files = files;
+  entries = entries;
+  places = told (2 ^ 32) (λ address. place_in unknown (here_at ranges address));
+  begins = told (2 ^ 32) (λ address. begins_at address (here_at ranges address));
+  unknown = unknown;
 }
