@@ -1,6 +1,6 @@
 -- What holds of every guest, when a thread of it is written, removed or added.
-use Rattle.std.proofs.Common.{◌≡◌, ℕ, zero, suc, ◌+◌, ◌%◌, ◌^◌, ◌<◌, ◌≤◌, ◌==◌, Bool, true, false, cond, List, [], ◌∷◌}
-use Rattle.std.proofs.Common.{◌++◌, length, map, refl, sym, ◌∙◌, ap, subst, inl, inr, arith, get_or, All}
+use Rattle.std.proofs.Common.{◌≡◌, ℕ, zero, suc, ◌+◌, ◌%◌, ◌^◌, ◌<◌, ◌≤◌, ◌==◌, Bool, true, false, List, [], ◌∷◌}
+use Rattle.std.proofs.Common.{◌++◌, length, map, refl, sym, ◌∙◌, ap, subst, inl, inr, arith, get_or, All, not}
 use Rattle.std.proofs.Math.ListN.{set, get_or-append}
 use Rattle.std.proofs.Math.Seq.{map-set_same, get_or-append_seam}
 use Rattle.std.proofs.lemmas.Bool.{cases_lt}
@@ -18,7 +18,7 @@ use Rattle.guest_load.specs.Guest.{Guest}
 use Rattle.guest_load.specs.Lawful.{IsLawful, IsThread}
 use Rattle.guest_sys.specs.declared.caller.Caller.{Caller}
 use Rattle.guest_sys.specs.Common.{IsCaller, argument, resume, with_caller, settle}
-use Rattle.guest_sys.specs.Threads.{is_crowded, new_thread, sets_tls, with_stack, with_tls, without_caller}
+use Rattle.guest_sys.specs.Threads.{has_flag, is_crowded, new_thread, with_register, without_caller}
 
 abbrev pub thread_number : Thread → ℕ
 thread_number t = t.no.0
@@ -148,24 +148,18 @@ numbers_below made value (t ∷ ts) h all zero d below = let given : t.no.0 ≤ 
 numbers_below made value (t ∷ ts) h all (suc k) d below =
     numbers_below made value ts h (λ j e l. all (suc j) e (omega arith)) k d (omega arith)
 
-zero_with_tls : (b : Bool) (tls : ℕ) (x : List ℕ) → get_or (with_tls b tls x) 0 0 ≡ get_or x 0 0
-zero_with_tls true tls x = get_or-set_other x 4 0 tls 0 (omega arith)
-zero_with_tls false tls x = refl
-
-zero_with_stack : (stack : ℕ) (x : List ℕ) → get_or (with_stack stack x) 0 0 ≡ get_or x 0 0
-zero_with_stack stack x = by (stack == 0)
-  where
-    by : (b : Bool) → get_or (cond b x (set x 2 stack)) 0 0 ≡ get_or x 0 0
-    by true = refl
-    by false = get_or-set_other x 2 0 stack 0 (omega arith)
+zero_with : (b : Bool) (k value : ℕ) (x : List ℕ) → 1 ≤ k → get_or (with_register b k value x) 0 0 ≡ get_or x 0 0
+zero_with true k value x h = get_or-set_other x k 0 value 0 (omega arith)
+zero_with false k value x h = refl
 
 new_lawful : (made value : ℕ) (c : Caller) → IsThread made c.thread → 1 ≤ value → IsThread value (new_thread value c)
 new_lawful made value c h one = record {
   numbered = one;
   given = omega arith;
   aligned = next_aligned c.thread.regs.pc h.aligned;
-  zero = zero_with_tls (sets_tls c) (argument 3 c) (with_stack (argument 1 c) (set c.thread.regs.x 10 0))
-      ∙ zero_with_stack (argument 1 c) (set c.thread.regs.x 10 0)
+  zero = zero_with (has_flag 0x8_0000 c) 4 (argument 3 c)
+      (with_register (not (argument 1 c == 0)) 2 (argument 1 c) (set c.thread.regs.x 10 0)) (omega arith)
+      ∙ zero_with (not (argument 1 c == 0)) 2 (argument 1 c) (set c.thread.regs.x 10 0) (omega arith)
       ∙ get_or-set_other c.thread.regs.x 10 0 0 0 (omega arith) ∙ h.zero;
 }
 

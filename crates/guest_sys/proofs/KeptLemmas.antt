@@ -1,7 +1,8 @@
 -- What each row leaves: the balance of those that live and wait, and the caller's form; and so what every call does.
 use Rattle.std.proofs.Common.{◌≡◌, ℕ, ◌+◌, ◌%◌, ◌≤◌, ◌==◌, Bool, true, false, cond, List, [], ◌∷◌, length}
 use Rattle.std.proofs.Common.{Option, Some, None, Result, Ok, Err, refl, sym, ◌∙◌, ap, subst, arith}
-use Rattle.std.specs.Prelude.{IfOk}
+use Rattle.std.specs.Prelude.{IfOk, if◌then◌else◌}
+use Rattle.std.specs.Option.{option_and_then, option_map_or}
 use Rattle.event_costs.specs.declared.numbers.ThreadNo.{ThreadNo}
 use Rattle.guest_mem.specs.Memory.{Memory, bytes_of, store_at}
 use Rattle.guest_load.specs.Guest.{Guest}
@@ -18,13 +19,13 @@ use Rattle.guest_sys.specs.declared.table.Row.{Row}
 use Rattle.guest_sys.specs.declared.table.Row.TheVariants as row
 use Rattle.guest_sys.specs.Kernel.{Kernel, kernel_of, times_live, EachWaiterLives}
 use Rattle.guest_sys.specs.Common.{IsCaller, WhereRefused, argument, number, resume, settle, quiet_effect, answers}
-use Rattle.guest_sys.specs.Common.{with_waits}
+use Rattle.guest_sys.specs.Common.{einval, with_waits}
 use Rattle.guest_sys.specs.inner.Bodies.{Gives}
 use Rattle.guest_sys.specs.Threads.{exit, is_cleared, without_caller}
-use Rattle.guest_sys.specs.Futexes.{operation_of, futex, operation_effect, performs, waits_on}
+use Rattle.guest_sys.specs.Futexes.{operation_of, futex, on_words, performs, refuses_wait, waits_on}
 use Rattle.guest_sys.specs.declared.effect.SysEnd.{SysEnd}
 use Rattle.guest_sys.specs.declared.effect.SysEnd.TheVariants.{Unsupported, OutOfMemory}
-use Rattle.guest_sys.specs.CallRow.{Calls, call_row, row_effect, caller_of, row_by, row_does, row_for, or_unsupported}
+use Rattle.guest_sys.specs.CallRow.{Calls, call_row, caller_of, row_does, row_for}
 use Rattle.guest_sys.specs.Table.{row_at}
 use Rattle.guest_sys.specs.Taking.{CallTakes, RowTakes, TakesMemory}
 use Rattle.guest_sys.proofs.LiveLemmas.{lives_after}
@@ -193,6 +194,10 @@ performs_it operation.Requeue c s is =
           (argument 0 c) (argument 3 c) (argument 4 c) (without_woken (argument 0 c) (argument 2 c) s.waits),
     ))
 
+-- what an operation does, if there is one
+abbrev pub operation_effect : Option Operation → Kernel → Caller → Option (Effect × Kernel)
+operation_effect o s c = option_and_then (λ op. if on_words op c then performs op s c else refuses_wait s c einval) o
+
 performed_it : (op : Option Operation) (c : Caller) (s : Kernel) → IsCaller s.guest c → Done c s (operation_effect op s c)
 performed_it None c s is = record { done = tt {0} }
 performed_it (Some op) c s is = choice _ _ _ _ _ (performs_it op c s is) (answered c s _ is)
@@ -253,11 +258,20 @@ lives_given r s c n (Err (Unsupported m)) new is gives lives idle live =
 lives_given r s c n (Err (OutOfMemory memory)) new is gives lives idle live =
     subst (λ (t : Kernel). EachWaiterLives t.guest.threads t.waits) (sym gives.1) lives
 
+-- what the row of a number does, if there is one
+abbrev pub row_effect : Option Row → Kernel → Caller → Option (Effect × Kernel)
+row_effect o s c = option_and_then (λ r. row_does r s c) o
+
+-- the effect and the kernel after it; else the number of the call
+abbrev pub or_unsupported : ℕ → Option (Effect × Kernel) → Result (Effect × Kernel) ℕ
+or_unsupported n o = option_map_or Ok o (Err n)
+
 -- the row of a call, once its caller and its row are found
 pub row_is : (s : Kernel) (thread : ThreadNo) (c : Caller) (o : Option Row) → caller_of thread s.guest.threads ≡ Some c
     → row_at (number c) ≡ o → call_row s thread ≡ or_unsupported (number c) (row_effect o s c)
 unfolding call_row row_for
-row_is s thread c o found at = ap (row_by s) found ∙ ap (λ (q : Option Row). or_unsupported (number c) (row_effect q s c)) at
+row_is s thread c o found at = ap (λ (q : Option Caller). option_map_or (row_for s) q (Err 0)) found
+    ∙ ap (λ (q : Option Row). or_unsupported (number c) (row_effect q s c)) at
 
 pub calls_given : (r : Row) (s : Kernel) (thread : ThreadNo) (c : Caller) (result : Result Effect SysEnd) (new : Kernel)
     → caller_of thread s.guest.threads ≡ Some c → row_at (number c) ≡ Some r
@@ -315,4 +329,4 @@ pub call_does : (c : Caller) (s : Kernel) (effect : Effect) (new : Kernel) → I
 unfolding call_row row_for
 call_does c s effect new caller found is =
     supported_does c s (number c) (row_effect (row_at (number c)) s c) effect new
-    (called_done c s (row_at (number c)) caller) (ap (row_by s) (sym found) ∙ is)
+    (called_done c s (row_at (number c)) caller) (ap (λ (q : Option Caller). option_map_or (row_for s) q (Err 0)) (sym found) ∙ is)

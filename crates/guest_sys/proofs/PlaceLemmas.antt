@@ -4,7 +4,7 @@ use Rattle.std.proofs.Common.{sym, ◌∙◌, ap, inl, inr, arith, nat_le}
 use Rattle.std.proofs.lemmas.Bool.{cases_lt, cases_Bool, cond-true, cond-false, and_right}
 use Rattle.std.proofs.lemmas.Bool.Decides.{nat_tests}
 use Rattle.guest_mem.specs.Memory.{Memory, page_mapped}
-use Rattle.guest_sys.specs.Pages.{is_free, fits, least, lowest_free}
+use Rattle.guest_sys.specs.Pages.{is_free, least, lowest_free}
 
 pub free_from : (m : Memory) (page n : ℕ) → ((p : ℕ) → page ≤ p → p < page + n → page_mapped m (p * 4096) ≡ false)
     → is_free m page n ≡ true
@@ -25,6 +25,10 @@ not_free m page (suc n) p low high there = elim (cases_lt page p) [
       let same : page ≡ p = omega arith in
       ap (λ b. not b && is_free m (page + 1) n) (ap (λ q. page_mapped m (q * 4096)) same ∙ there)
 ]
+
+-- whether a mapping of n pages can begin at this one
+abbrev pub fits : Memory → ℕ → ℕ → Bool
+fits m n page = nat_le (page + n) 0x7f000 && is_free m page n
 
 -- a mapping that fits nowhere below fits nowhere where one of its pages is mapped
 pub no_fit : (m : Memory) (n page p : ℕ) → page ≤ p → p < page + n → page_mapped m (p * 4096) ≡ true

@@ -20,21 +20,23 @@ use Rattle.guest_sys.specs.declared.reach.Reach.{Reach}
 use Rattle.guest_sys.specs.declared.table.Row.{Row}
 use Rattle.guest_sys.specs.declared.table.Row.TheVariants as row
 use Rattle.guest_sys.specs.Kernel.{Kernel}
-use Rattle.guest_sys.specs.CallRow.{call_row, caller_of, row_does, or_unsupported}
+use Rattle.guest_sys.specs.CallRow.{call_row, caller_of, row_does}
 use Rattle.guest_sys.specs.Clock.{clock_gettime, getrandom, random_count, time_of}
 use Rattle.guest_sys.specs.Common.{answers, argument, number, with_waits}
-use Rattle.guest_sys.specs.Futexes.{operation_of, futex, operation_effect, performs, waits_on}
+use Rattle.guest_sys.specs.Futexes.{operation_of, futex, performs, waits_on}
 use Rattle.guest_sys.specs.Pages.{brk, grown_memory, least, lowest_free, maps, mmap, mprotect, munmap, page_end, pages_for}
-use Rattle.guest_sys.specs.Pages.{fits, is_range, mapped_at, too_many, with_memory}
+use Rattle.guest_sys.specs.Pages.{is_range, mapped_at, too_many, with_memory}
 use Rattle.guest_sys.specs.Reaching.{IsWithin, all_from, reach_of}
 use Rattle.guest_sys.specs.Signals.{is_live, kill, signal_effect_where, tgkill, tkill}
 use Rattle.guest_sys.specs.Streams.{consume_input, input_left, read, read_count, write}
 use Rattle.guest_sys.specs.Table.{row_at}
+use Rattle.guest_sys.proofs.PlaceLemmas.{fits}
 use Rattle.guest_sys.specs.Threads.{exit, is_cleared}
-use Rattle.guest_sys.specs.Vectors.{addresses_from, each_allowed, moved_addresses, vector_effect, iovec_count, writev}
-use Rattle.guest_sys.proofs.KeptLemmas.{row_is}
+use Rattle.guest_sys.specs.Vectors.{addresses_from, moved_addresses, vector_effect, iovec_count, writev}
+use Rattle.guest_sys.proofs.KeptLemmas.{operation_effect, or_unsupported, row_is}
 use Rattle.guest_sys.proofs.RowLemmas.{length-counting}
 use Rattle.guest_sys.proofs.VectorLemmas.{and_left}
+use Rattle.guest_sys.specs.inner.Bodies.{each_allowed}
 
 -- ---- memories
 

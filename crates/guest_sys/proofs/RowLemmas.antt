@@ -9,13 +9,14 @@ use Rattle.std.proofs.lemmas.List.{length-append, take-append-drop, append-nil}
 use Rattle.std.proofs.lemmas.Slice.{take-put_mid, drop-put_mid}
 use Rattle.std.proofs.Math.Seq.{take-append_seam, drop-length}
 use borrow.Rule.Slice.PartMut.{put_mid}
-use Rattle.std.specs.List.{slice_get, position_or_len}
+use Rattle.std.specs.List.{find, slice_get, position_or_len}
+use Rattle.std.specs.Option.{option_map}
 use Rattle.std.specs.Int.{to_le_bytes, w64}
 use Rattle.std.proofs.lemmas.Grind.{same_number_lists}
 use Rattle.guest_mem.specs.Memory.{bytes_of}
 use Rattle.guest_sys.specs.declared.table.CallNumber.{CallNumber}
 use Rattle.guest_sys.specs.declared.table.Row.{Row}
-use Rattle.guest_sys.specs.Table.{call_table, row_at, row_in}
+use Rattle.guest_sys.specs.Table.{call_table, row_at}
 use Rattle.guest_sys.specs.Vectors.{addresses_from}
 
 abbrev pub zipped : List CallNumber → List Row → List (ℕ × Row)
@@ -26,10 +27,15 @@ zipped (n ∷ ns) (r ∷ rows) = (n.0, r) ∷ zipped ns rows
 abbrev pub is_number : ℕ → CallNumber → Bool
 is_number number n = n.0 == number
 
-first_or : (b : Bool) (r : Row) (rows : List Row) (rest : Option Row) (place : ℕ) → rest ≡ slice_get rows place
-    → cond b (Some r) rest ≡ slice_get (r ∷ rows) (cond (not b) (1 + place) 0)
-first_or true r rows rest place h = refl
-first_or false r rows rest place h = rw (one_add place) h
+-- the row of a number, where a table has it
+abbrev pub row_in : List (ℕ × Row) → ℕ → Option Row
+row_in table number = option_map (λ p. p.1) (find (λ p. p.0 == number) table)
+
+first_or : (b : Bool) (n : ℕ) (r : Row) (rows : List Row) (rest : Option (ℕ × Row)) (place : ℕ)
+    → option_map (λ (p : ℕ × Row). p.1) rest ≡ slice_get rows place
+    → option_map (λ (p : ℕ × Row). p.1) (cond b (Some (n, r)) rest) ≡ slice_get (r ∷ rows) (cond (not b) (1 + place) 0)
+first_or true n r rows rest place h = refl
+first_or false n r rows rest place h = rw (one_add place) h
   where
     one_add : (n : ℕ) → 1 + n ≡ suc n
     one_add n = omega arith
@@ -40,7 +46,7 @@ by_place [] [] number h = refl
 by_place [] (r ∷ rows) number h = absurd (omega arith)
 by_place (n ∷ ns) [] number h = absurd (omega arith)
 by_place (n ∷ ns) (r ∷ rows) number h =
-    first_or (n.0 == number) r rows (row_in (zipped ns rows) number) (position_or_len (is_number number) ns)
+    first_or (n.0 == number) n.0 r rows (find (λ p. p.0 == number) (zipped ns rows)) (position_or_len (is_number number) ns)
     (by_place ns rows number (omega arith))
 
 -- the place that is found has the row; where none is found there is none

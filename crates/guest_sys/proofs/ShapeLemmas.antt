@@ -16,16 +16,16 @@ use Rattle.guest_sys.specs.declared.effect.Act.TheVariants as act
 use Rattle.guest_sys.specs.declared.effect.Effect.{Effect}
 use Rattle.guest_sys.specs.Kernel.{Kernel, kernel_of, times_live}
 use Rattle.guest_sys.specs.Laws.{ChangesNothing, spawned_by, times_in, waiters_by}
-use Rattle.guest_sys.specs.Common.{IsCaller, argument, does, resume, settle}
-use Rattle.guest_sys.specs.Simple.{sched_yield}
+use Rattle.guest_sys.specs.Common.{IsCaller, argument, does, quiet_effect, resume, settle}
 use Rattle.guest_sys.specs.Streams.{is_output, read, write, write_count}
-use Rattle.guest_sys.specs.Vectors.{each_allowed, moved_addresses, vector_effect, iovec_count, readv, writev}
+use Rattle.guest_sys.specs.Vectors.{moved_addresses, vector_effect, iovec_count, readv, writev}
 use Rattle.guest_sys.specs.Pages.{brk, grown_memory, maps, mmap, mprotect, munmap, page_end, too_many}
-use Rattle.guest_sys.specs.Threads.{clone_effect, clone, exit_group, is_crowded, is_thread, may_tell_both, new_thread}
+use Rattle.guest_sys.specs.Threads.{clone_effect, clone, is_crowded, is_thread, may_tell_both, new_thread}
 use Rattle.guest_sys.specs.Threads.{set_tid_address}
 use Rattle.guest_sys.specs.Signals.{is_live, kill, signal_effect_where, tgkill, tkill}
 use Rattle.guest_sys.specs.Clock.{clock_gettime, getrandom}
 use Rattle.guest_sys.proofs.BalanceLemmas.{IsKept, one, times_in-one, times_live-append, times_live-cons, times_live-set}
+use Rattle.guest_sys.specs.inner.Bodies.{each_allowed}
 
 -- ---- the forms
 
@@ -121,10 +121,10 @@ outputs : (c : Caller) (g : Guest) (fd : ℕ) (bytes : List ℕ) (value : ℕ)
 outputs c g fd bytes value =
     record { moved = record { moves = goes c g g value refl refl; nobody = refl; steps = refl } }
 
-pub yields : (c : Caller) (g : Guest) → Moved c g (sched_yield g c)
+pub yields : (c : Caller) (g : Guest) → Moved c g (does g c act.Yield 0)
 yields c g = record { moved = record { moves = goes c g g 0 refl refl; nobody = refl; steps = refl } }
 
-pub ends : (c : Caller) (g : Guest) → Moved c g (exit_group g c)
+pub ends : (c : Caller) (g : Guest) → Moved c g (Some (quiet_effect (act.ProcessEnd (argument 0 c % 256)), g))
 ends c g = record { moved = record { moves = refl; nobody = refl; steps = refl } }
 
 pub reads : (c : Caller) (g : Guest) → Moved c g (read g c)

@@ -15,8 +15,8 @@ use Rattle.guest_mem.proofs.Ranges.{may-from, may_at, allowed-written}
 use Rattle.guest_mem.proofs.Spans.{written-append}
 use Rattle.guest_sys.specs.declared.vectors.Iovec.{Iovec}
 use Rattle.guest_sys.specs.declared.vectors.IovecList.{IovecList}
-use Rattle.guest_sys.specs.Vectors.{iovec_at, iovecs, total, addresses_from, addresses_of, iovecs_read, each_allowed}
-use Rattle.guest_sys.specs.inner.Bodies.{IsIovecList}
+use Rattle.guest_sys.specs.Vectors.{iovec_at, iovecs, total, addresses_from, iovecs_read}
+use Rattle.guest_sys.specs.inner.Bodies.{addresses_of, each_allowed, IsIovecList}
 use Rattle.guest_sys.specs.Vectors.{put_each}
 use Rattle.guest_sys.specs.Taking.{ReadsFirst}
 use Rattle.guest_sys.proofs.RowLemmas.{length-counting, take-counting}

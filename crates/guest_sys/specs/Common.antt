@@ -1,6 +1,7 @@
 -- What system calls have in common: their arguments, their answers, and what they leave of the caller.
-use Rattle.std.specs.Prelude.{◌≡◌, ℕ, ◌+◌, ◌-◌, ◌%◌, ◌^◌, List, [], Option, Some, None, Result, Ok, Err, slice_get}
-use Rattle.std.specs.Prelude.{slice_index, slice_set}
+use Rattle.std.specs.Prelude.{◌≡◌, ℕ, ◌+◌, ◌-◌, ◌%◌, ◌^◌, Bool, if◌then◌else◌, List, [], Option, Some, Result, Ok, Err}
+use Rattle.std.specs.Prelude.{slice_get, slice_index, slice_set}
+use Rattle.std.specs.Option.{option_map}
 use Rattle.guest_load.specs.declared.thread.Thread.{Thread}
 use Rattle.guest_load.specs.Guest.{Guest}
 use Rattle.guest_futex.specs.declared.queue.Wait.{Wait}
@@ -25,11 +26,7 @@ IsCaller g c = slice_get g.threads c.place ≡ Some c.thread
 
 -- the thread once its call is answered: the answer is in a0, and the thread stands at the next instruction
 abbrev pub resume : Thread → ℕ → Thread
-resume t value = record {
-  no = t.no;
-  regs = record { pc = (t.regs.pc + 4) % 2 ^ 32; x = slice_set t.regs.x 10 value };
-  clear = t.clear;
-}
+resume t value = record t { regs = record { pc = (t.regs.pc + 4) % 2 ^ 32; x = slice_set t.regs.x 10 value } }
 
 -- the guest with the caller as it is now
 abbrev pub with_caller : Guest → Caller → Thread → Guest
@@ -58,10 +55,13 @@ error_of errno = 2 ^ 32 - errno
 abbrev pub refuses : Guest → Caller → ℕ → Option (Effect × Guest)
 refuses g c errno = answers g c (error_of errno)
 
+-- a row where what it needs holds, and else an error
+abbrev pub needs : Bool → ℕ → Guest → Caller → Option (Effect × Guest) → Option (Effect × Guest)
+needs holds errno g c row = if holds then row else refuses g c errno
+
 -- the same over the whole kernel, where those that wait stay as they are
 abbrev pub with_waits : List Wait → Option (Effect × Guest) → Option (Effect × Kernel)
-with_waits waits None = None
-with_waits waits (Some p) = Some (p.0, kernel_of p.1 waits)
+with_waits waits row = option_map (λ p. (p.0, kernel_of p.1 waits)) row
 
 -- what holds where a call found no memory
 abbrev pub WhereRefused : Result Effect SysEnd → Type 0 → Type 0
@@ -70,9 +70,6 @@ WhereRefused (Err (Unsupported n)) takes = Unit {0}
 WhereRefused (Err (OutOfMemory _)) takes = takes
 
 -- ---- errors, by their numbers
-
-abbrev pub enoent : ℕ
-enoent = 2
 
 abbrev pub ebadf : ℕ
 ebadf = 9
@@ -88,12 +85,3 @@ efault = 14
 
 abbrev pub einval : ℕ
 einval = 22
-
-abbrev pub enotty : ℕ
-enotty = 25
-
-abbrev pub espipe : ℕ
-espipe = 29
-
-abbrev pub enosys : ℕ
-enosys = 38

@@ -2,7 +2,7 @@
 use Rattle.std.specs.Prelude.{ℕ, ◌==◌, ◌&&◌, Bool, nat_le, if◌then◌else◌, Option, Some, None}
 use Rattle.std.specs.List.{list_any}
 use Rattle.guest_load.specs.Guest.{Guest}
-use Rattle.guest_sys.specs.Common.{argument, answers, refuses, quiet_effect, einval}
+use Rattle.guest_sys.specs.Common.{argument, answers, quiet_effect, einval, needs}
 use Rattle.guest_sys.specs.declared.caller.Caller.{Caller}
 use Rattle.guest_sys.specs.declared.effect.Act.TheVariants as act
 use Rattle.guest_sys.specs.declared.effect.Effect.{Effect}
@@ -11,8 +11,7 @@ use Rattle.guest_sys.specs.declared.effect.Effect.{Effect}
 abbrev pub signal_effect : Guest → Caller → ℕ → Option (Effect × Guest)
 signal_effect g c signal =
     if signal == 0 then answers g c 0
-    else if nat_le signal 64 then Some (quiet_effect (act.Killed signal), g)
-    else refuses g c einval
+    else needs (nat_le signal 64) einval g c (Some (quiet_effect (act.Killed signal), g))
 
 abbrev pub is_live : Guest → ℕ → Bool
 is_live g thread = list_any (λ t. t.no.0 == thread) g.threads

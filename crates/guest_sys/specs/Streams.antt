@@ -1,8 +1,8 @@
 -- read and write: the input is descriptor 0, the output 1 and 2.
-use Rattle.std.specs.Prelude.{ℕ, ◌+◌, ◌-◌, ◌==◌, ◌||◌, Bool, min, List, length, take, drop, if◌then◌else◌, Option}
+use Rattle.std.specs.Prelude.{ℕ, ◌+◌, ◌-◌, ◌==◌, ◌||◌, Bool, min, List, length, take, drop, Option}
 use Rattle.guest_mem.specs.Memory.{Memory, may, bytes_at, store_at}
 use Rattle.guest_load.specs.Guest.{Guest}
-use Rattle.guest_sys.specs.Common.{argument, does, answers, refuses, ebadf, efault}
+use Rattle.guest_sys.specs.Common.{argument, does, answers, ebadf, efault, needs}
 use Rattle.guest_sys.specs.declared.caller.Caller.{Caller}
 use Rattle.guest_sys.specs.declared.effect.Act.TheVariants as act
 use Rattle.guest_sys.specs.declared.effect.Effect.{Effect}
@@ -24,12 +24,9 @@ read_count g c = min (argument 2 c) (input_left_len g)
 -- read(fd, buf, n): the next bytes of the input, at most n, go to buf
 unfoldable pub read : Guest → Caller → Option (Effect × Guest)
 read g c =
-    if argument 0 c == 0
-    then (if may g.mem 2 (argument 1 c) (read_count g c)
-    then answers (consume_input g (read_count g c) (store_at g.mem (argument 1 c) (take (read_count g c) (input_left g)))) c
-    (read_count g c)
-    else refuses g c efault)
-    else refuses g c ebadf
+    needs (argument 0 c == 0) ebadf g c (needs (may g.mem 2 (argument 1 c) (read_count g c)) efault g c
+    (answers (consume_input g (read_count g c) (store_at g.mem (argument 1 c) (take (read_count g c) (input_left g)))) c
+    (read_count g c)))
 
 abbrev pub is_output : ℕ → Bool
 is_output fd = (fd == 1) || (fd == 2)
@@ -44,8 +41,5 @@ write_count c = min (argument 2 c) write_limit
 -- write(fd, buf, n): the bytes from buf on, at most n, are output
 unfoldable pub write : Guest → Caller → Option (Effect × Guest)
 write g c =
-    if is_output (argument 0 c)
-    then (if may g.mem 1 (argument 1 c) (write_count c)
-    then does g c (act.Output (argument 0 c) (bytes_at g.mem (argument 1 c) (write_count c))) (write_count c)
-    else refuses g c efault)
-    else refuses g c ebadf
+    needs (is_output (argument 0 c)) ebadf g c (needs (may g.mem 1 (argument 1 c) (write_count c)) efault g c
+    (does g c (act.Output (argument 0 c) (bytes_at g.mem (argument 1 c) (write_count c))) (write_count c)))

@@ -1,5 +1,6 @@
 -- The numbers of the system calls, after Linux's for 32-bit RISC-V, each with its row.
-use Rattle.std.specs.Prelude.{ℕ, ◌==◌, List, [], ◌∷◌, if◌then◌else◌, Option, Some, None}
+use Rattle.std.specs.Prelude.{ℕ, ◌==◌, List, [], ◌∷◌, Option, find}
+use Rattle.std.specs.Option.{option_map}
 use Rattle.guest_sys.specs.declared.table.Row.{Row}
 use Rattle.guest_sys.specs.declared.table.Row.TheVariants as row
 
@@ -14,10 +15,6 @@ call_table =
     ∷ (214, row.Brk) ∷ (215, row.Munmap) ∷ (216, row.Mremap) ∷ (220, row.Clone) ∷ (222, row.Mmap) ∷ (226, row.Mprotect)
     ∷ (278, row.Getrandom) ∷ (403, row.ClockGettime) ∷ (435, row.Clone3) ∷ []
 
--- the row of a number, where a table has it
-abbrev pub row_in : List (ℕ × Row) → ℕ → Option Row
-row_in [] number = None
-row_in (p ∷ table) number = if p.0 == number then Some p.1 else row_in table number
-
+-- the row of a number, where the table has it
 unfoldable pub row_at : ℕ → Option Row
-row_at number = row_in call_table number
+row_at number = option_map (λ p. p.1) (find (λ p. p.0 == number) call_table)

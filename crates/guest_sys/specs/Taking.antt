@@ -1,16 +1,16 @@
 -- Which calls take memory, by their rows: no other call can find none.
-use Rattle.std.specs.Prelude.{◌≡◌, ℕ, ◌<◌, ◌≤◌, ◌==◌, true, false, if◌then◌else◌, length, Option, None, Some}
+use Rattle.std.specs.Prelude.{◌≡◌, ℕ, ◌<◌, ◌≤◌, ◌==◌, true, false, bit_and, if◌then◌else◌, length, Option, None, Some}
 use Rattle.guest_mem.specs.Memory.{Memory, load_at, may}
 use Rattle.guest_load.specs.Guest.{Guest}
 use Rattle.guest_futex.specs.Waits.{woken_at}
 use Rattle.guest_sys.specs.Kernel.{Kernel}
 use Rattle.guest_sys.specs.Common.{argument, number}
 use Rattle.guest_sys.specs.Futexes.{operation_of, on_words}
-use Rattle.guest_sys.specs.Pages.{grown_memory, is_private, lowest_free, mapped_at, page_end, pages_for, too_many}
+use Rattle.guest_sys.specs.Pages.{grown_memory, lowest_free, mapped_at, page_end, pages_for, too_many}
 use Rattle.guest_sys.specs.Streams.{is_output, input_left_len, write_count, write_limit}
 use Rattle.guest_sys.specs.Table.{row_at}
 use Rattle.guest_sys.specs.Threads.{is_cleared, is_crowded, is_thread, may_tell_both}
-use Rattle.guest_sys.specs.Vectors.{most_pairs, iovecs_read}
+use Rattle.guest_sys.specs.Vectors.{iovecs_read}
 use Rattle.guest_sys.specs.declared.caller.Caller.{Caller}
 use Rattle.guest_sys.specs.declared.futexes.Operation.{Operation}
 use Rattle.guest_sys.specs.declared.futexes.Operation.TheVariants.{Wait, Wake, Requeue}
@@ -29,11 +29,11 @@ ReadsFirst limit m iov count = (1 ≤ iovecs_read limit m iov count) × (may m 1
 -- readv and writev, for the list of their ranges and for the bytes that they output
 abbrev pub ReadvTakes : Guest → Caller → Type 0
 ReadvTakes g c =
-    (argument 0 c ≡ 0) × (argument 2 c ≤ most_pairs) × ReadsFirst (input_left_len g) g.mem (argument 1 c) (argument 2 c)
+    (argument 0 c ≡ 0) × (argument 2 c ≤ 1024) × ReadsFirst (input_left_len g) g.mem (argument 1 c) (argument 2 c)
 
 abbrev pub WritevTakes : Guest → Caller → Type 0
 WritevTakes g c =
-    (is_output (argument 0 c) ≡ true) × (argument 2 c ≤ most_pairs)
+    (is_output (argument 0 c) ≡ true) × (argument 2 c ≤ 1024)
     × ReadsFirst write_limit g.mem (argument 1 c) (argument 2 c)
 
 -- who wakes, for the list of those that it wakes
@@ -71,7 +71,7 @@ MapTakes g c (Some page) = too_many (mapped_at g c page) ≡ false
 
 abbrev pub place_for : Guest → Caller → Option ℕ
 place_for g c =
-    if is_private (argument 3 c)
+    if bit_and (argument 3 c) 0x33 == 0x22
     then (if argument 1 c == 0 then None else lowest_free g.mem (pages_for (argument 1 c)))
     else None
 

@@ -7,7 +7,7 @@ use Rattle.guest_load.specs.Guest.{Guest}
 use Rattle.guest_load.specs.declared.thread.Thread.{Thread}
 use Rattle.guest_futex.specs.Waits.{woken_at, without_woken}
 use Rattle.guest_sys.specs.Kernel.{Kernel, kernel_of}
-use Rattle.guest_sys.specs.Common.{argument, resume, with_caller, settle, quiet_effect, refuses, eagain, efault}
+use Rattle.guest_sys.specs.Common.{argument, resume, with_caller, settle, quiet_effect, refuses, eagain, efault, needs}
 use Rattle.guest_sys.specs.declared.caller.Caller.{Caller}
 use Rattle.guest_sys.specs.declared.effect.Act.{Act}
 use Rattle.guest_sys.specs.declared.effect.Act.TheVariants as act
@@ -37,10 +37,6 @@ exit s c =
     )
     else Some (quiet_effect (end_act s.guest c), kernel_of (without_caller s.guest c s.guest.mem) s.waits)
 
--- exit_group(code): the process ends, and nothing changes
-abbrev pub exit_group : Guest → Caller → Option (Effect × Guest)
-exit_group g c = Some (quiet_effect (act.ProcessEnd (argument 0 c % 256)), g)
-
 -- set_tid_address(p): the clear address is p; the thread's number
 abbrev pub set_tid_address : Guest → Caller → Option (Effect × Guest)
 set_tid_address g c =
@@ -48,31 +44,15 @@ set_tid_address g c =
 
 -- ---- beginnings: clone(flags, stack, parent, tls, child)
 
--- the flags that every new thread needs (memory, files, handlers and the process are shared), and all that are known
-abbrev pub needed_flags : ℕ
-needed_flags = 0x1_0f00
-
-abbrev pub known_flags : ℕ
-known_flags = 0x17d_0f00
-
+-- every new thread needs the flags 0x1_0f00 (memory, files, handlers and the process are shared), and 0x17d_0f00 are all
+-- that are known
 abbrev pub is_thread : ℕ → Bool
-is_thread flags = (bit_and flags needed_flags == needed_flags) && (bit_or flags known_flags == known_flags)
+is_thread flags = (bit_and flags 0x1_0f00 == 0x1_0f00) && (bit_or flags 0x17d_0f00 == 0x17d_0f00)
 
+-- Of the flags 0x8_0000 sets the new thread's tls, 0x20_0000 its clear address, and 0x10_0000 and 0x100_0000 tell its
+-- number to a word of the caller's and of its own.
 abbrev pub has_flag : ℕ → Caller → Bool
 has_flag flag c = bit_and (argument 0 c) flag == flag
-
--- flags that name the new thread's tls, its clear address, and a word of the caller's and of its own for its number
-abbrev pub sets_tls : Caller → Bool
-sets_tls c = has_flag 0x8_0000 c
-
-abbrev pub sets_clear : Caller → Bool
-sets_clear c = has_flag 0x20_0000 c
-
-abbrev pub tells_parent : Caller → Bool
-tells_parent c = has_flag 0x10_0000 c
-
-abbrev pub tells_child : Caller → Bool
-tells_child c = has_flag 0x100_0000 c
 
 -- no more threads: as many are live as may be, or as many were made
 abbrev pub is_crowded : Guest → Bool
@@ -86,31 +66,27 @@ abbrev pub with_number : Bool → ℕ → ℕ → Memory → Memory
 with_number tells a value m = if tells then store_at m a (bytes_of 4 value) else m
 
 abbrev pub may_tell_both : Guest → Caller → Bool
-may_tell_both g c = may_tell (tells_parent c) g.mem (argument 2 c) && may_tell (tells_child c) g.mem (argument 4 c)
+may_tell_both g c =
+    may_tell (has_flag 0x10_0000 c) g.mem (argument 2 c) && may_tell (has_flag 0x100_0000 c) g.mem (argument 4 c)
 
 -- the registers of the new thread: the caller's, with 0 as answer, its own stack pointer (x2) and tls (x4)
-abbrev pub with_stack : ℕ → List ℕ → List ℕ
-with_stack stack x = if stack == 0 then x else slice_set x 2 stack
-
-abbrev pub with_tls : Bool → ℕ → List ℕ → List ℕ
-with_tls sets tls x = if sets then slice_set x 4 tls else x
+abbrev pub with_register : Bool → ℕ → ℕ → List ℕ → List ℕ
+with_register sets k value x = if sets then slice_set x k value else x
 
 abbrev pub new_thread : ℕ → Caller → Thread
 new_thread value c =
-    let after = resume c.thread 0 in
-    record {
+    let regs = (resume c.thread 0).regs in
+    let x = with_register (not (argument 1 c == 0)) 2 (argument 1 c) regs.x in record {
       no = record { 0 = value };
-      regs = record {
-        pc = after.regs.pc;
-        x = with_tls (sets_tls c) (argument 3 c) (with_stack (argument 1 c) after.regs.x);
-      };
-      clear = if sets_clear c then argument 4 c else 0;
+      regs = record regs { x = with_register (has_flag 0x8_0000 c) 4 (argument 3 c) x };
+      clear = if has_flag 0x20_0000 c then argument 4 c else 0;
     }
 
 -- the guest with one thread more; the parent's word is written before the child's
 abbrev pub with_thread : Guest → Caller → ℕ → Guest
 with_thread g c value = record g {
-  mem = with_number (tells_child c) (argument 4 c) value (with_number (tells_parent c) (argument 2 c) value g.mem);
+  mem = with_number (has_flag 0x100_0000 c) (argument 4 c) value
+      (with_number (has_flag 0x10_0000 c) (argument 2 c) value g.mem);
   threads = g.threads ++ new_thread value c ∷ [];
   made = value;
 }
@@ -122,5 +98,5 @@ unfoldable pub clone : Guest → Caller → Option (Effect × Guest)
 clone g c =
     if is_thread (argument 0 c)
     then (if is_crowded g then refuses g c eagain
-    else (if may_tell_both g c then clone_effect g c (g.made + 1) else refuses g c efault))
+    else needs (may_tell_both g c) efault g c (clone_effect g c (g.made + 1)))
     else None

@@ -6,7 +6,7 @@ ghost use Rattle.guest_futex.specs.Waits.{times_waiting};
 ghost use Rattle.guest_sys.specs.Kernel.{kernel_of};
 ghost use Rattle.guest_sys.specs.Common.{IsCaller, argument, number};
 ghost use Rattle.guest_sys.specs.inner.Bodies.{Gives};
-ghost use Rattle.guest_sys.specs.Futexes.{operation_of, futex, on_words, requeues, waits_on, wakes};
+ghost use Rattle.guest_sys.specs.Futexes.{operation_of, futex, on_words, performs, waits_on};
 ghost use Rattle.guest_sys.specs.Taking.{FutexTakes, WaitTakes, WakeTakes};
 
 use crate::caller::{Caller, EAGAIN, EFAULT, EINVAL, quiet_effect, refuse, settle};
@@ -98,7 +98,7 @@ fn wait(
 fn wake(guest: &mut Guest, waiters: &mut Waiters, caller: &Caller) -> Result<Effect, SysEnd>
     requires { IsCaller guest.old caller.now }
     ensures { let before = kernel_of guest.old waiters.old.waits in
-        Gives (WakeTakes before (argument 0 caller.now) (argument 2 caller.now)) (wakes before caller.now)
+        Gives (WakeTakes before (argument 0 caller.now) (argument 2 caller.now)) (performs Operation.Wake before caller.now)
         (number caller.now) before result (kernel_of guest.new waiters.new.waits) }
 {
     let woken = waiters.wake(caller.argument(0), caller.argument(2))?;
@@ -113,7 +113,7 @@ fn wake(guest: &mut Guest, waiters: &mut Waiters, caller: &Caller) -> Result<Eff
 fn requeue(guest: &mut Guest, waiters: &mut Waiters, caller: &Caller) -> Result<Effect, SysEnd>
     requires { IsCaller guest.old caller.now }
     ensures { let before = kernel_of guest.old waiters.old.waits in
-        Gives (WakeTakes before (argument 0 caller.now) (argument 2 caller.now)) (requeues before caller.now)
+        Gives (WakeTakes before (argument 0 caller.now) (argument 2 caller.now)) (performs Operation.Requeue before caller.now)
         (number caller.now) before result (kernel_of guest.new waiters.new.waits) }
 {
     let addr = caller.argument(0);

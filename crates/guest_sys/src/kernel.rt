@@ -190,7 +190,7 @@ fn apply(
         Row::Readv => vectors::readv(alloc, guest, caller),
         Row::Writev => vectors::writev(alloc, guest, caller),
         Row::Exit => threads::exit(alloc, guest, waiters, caller),
-        Row::ExitGroup => Ok(threads::exit_group(alloc, guest, caller)),
+        Row::ExitGroup => Ok(threads::exit_group(alloc, caller)),
         Row::SetTidAddress => Ok(threads::set_tid_address(alloc, guest, caller)),
         Row::Futex => futexes::futex(alloc, guest, waiters, caller),
         Row::Accepted => Ok(answer(alloc, guest, caller, 0)),

@@ -4,7 +4,7 @@ ghost use Rattle.std.specs.Prelude.{◌≡◌, ℕ, ◌+◌, ◌*◌, ◌≤◌,
 ghost use Rattle.guest_mem.specs.Memory.{page_mapped};
 ghost use Rattle.guest_sys.specs.Common.{IsCaller, argument, number};
 ghost use Rattle.guest_sys.specs.inner.Bodies.{Gives};
-ghost use Rattle.guest_sys.specs.Pages.{brk, break_moved, is_private, is_range, lowest_free, maps};
+ghost use Rattle.guest_sys.specs.Pages.{brk, break_moved, is_range, lowest_free, maps};
 ghost use Rattle.guest_sys.specs.Pages.{mmap, mprotect, munmap, page_end, pages_for};
 ghost use Rattle.guest_sys.specs.Taking.{BreakTakes, GrowthTakes, MapTakes, place_for};
 

@@ -1,11 +1,11 @@
 //! The beginning and the end of threads.
 
-ghost use Rattle.std.specs.Prelude.{◌≡◌, ◌+◌, Some, OnOk, OnErr, false};
+ghost use Rattle.std.specs.Prelude.{◌≡◌, ◌+◌, ◌%◌, Some, OnOk, OnErr, false};
 ghost use Rattle.guest_sys.specs.Kernel.{kernel_of};
-ghost use Rattle.guest_sys.specs.Common.{IsCaller, number};
+ghost use Rattle.guest_sys.specs.Common.{IsCaller, argument, number, quiet_effect};
 ghost use Rattle.guest_sys.specs.inner.Bodies.{Gives};
 ghost use Rattle.guest_sys.specs.Taking.{CloneTakes, ExitTakes};
-ghost use Rattle.guest_sys.specs.Threads.{clone, end_act, exit, exit_group, has_flag, is_cleared, is_crowded};
+ghost use Rattle.guest_sys.specs.Threads.{clone, end_act, exit, has_flag, is_cleared, is_crowded};
 ghost use Rattle.guest_sys.specs.Threads.{is_thread, may_tell, may_tell_both, new_thread, set_tid_address};
 ghost use Rattle.guest_sys.specs.Threads.{with_number, with_thread, without_caller};
 
@@ -91,8 +91,8 @@ pub fn exit(
 }
 
 /// exit_group(code): the process ends, and nothing changes.
-pub fn exit_group(alloc: Global, guest: &Guest, caller: &Caller) -> Effect
-    ensures { Some (result, guest.now) ≡ exit_group guest.now caller.now }
+pub fn exit_group(alloc: Global, caller: &Caller) -> Effect
+    ensures { result ≡ quiet_effect (Act.ProcessEnd (argument 0 caller.now % 256)) }
 {
     let code = (caller.argument(0) % 256) as u8;
     quiet_effect(alloc, Act::ProcessEnd(code))

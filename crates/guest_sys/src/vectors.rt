@@ -3,9 +3,9 @@
 ghost use Rattle.std.specs.Prelude.{◌≡◌, ◌≤◌, ◌++◌, IfOk, OnErr, take, length, true};
 ghost use Rattle.guest_mem.specs.Memory.{may, bytes_at, number_of};
 ghost use Rattle.guest_sys.specs.Common.{IsCaller, number};
-ghost use Rattle.guest_sys.specs.inner.Bodies.{Gives};
+ghost use Rattle.guest_sys.specs.inner.Bodies.{addresses_of, each_allowed, Gives};
 ghost use Rattle.guest_sys.specs.Taking.{ReadsFirst, ReadvTakes, WritevTakes};
-ghost use Rattle.guest_sys.specs.Vectors.{addresses_from, each_allowed, addresses_of};
+ghost use Rattle.guest_sys.specs.Vectors.{addresses_from};
 ghost use Rattle.guest_sys.specs.inner.Bodies.{Gathers, IsIovecList};
 ghost use Rattle.guest_sys.specs.Vectors.{put_each, readv, iovec_at, writev};
 

@@ -2,9 +2,9 @@ use Rattle.std.proofs.Common.{◌+◌, ◌-◌, ◌≤◌, ◌++◌, ◌∙◌, 
 use Rattle.std.proofs.Common.{append_assoc, arith}
 use Rattle.guest_mem.specs.Memory.{may, byte_at, bytes_at}
 use Rattle.guest_sys.specs.declared.vectors.Iovec.{Iovec}
-use Rattle.guest_sys.specs.Vectors.{each_allowed, addresses_of}
 use Rattle.guest_sys.proofs.VectorLemmas.{allowed_at, bytes_of_places, false_and, on_err, true_and}
 use Rattle.guest_sys.proofs.vectors.gather.Goals as goal
+use Rattle.guest_sys.specs.inner.Bodies.{addresses_of, each_allowed}
 
 abbrev nothing : Iovec
 nothing = record { addr = 0; len = 0 }

@@ -1,7 +1,7 @@
 use Rattle.std.proofs.Common.{◌≡◌, ◌++◌, map, take, drop}
 use Rattle.guest_mem.specs.Memory.{byte_at}
-use Rattle.guest_sys.specs.Vectors.{each_allowed, addresses_of}
 use Rattle.guest_sys.proofs.vectors.gather.Given as goal
+use Rattle.guest_sys.specs.inner.Bodies.{addresses_of, each_allowed}
 
 abbrev pub invariant-iovecs : goal.invariant-iovecs
 invariant-iovecs l = record {

@@ -1,9 +1,9 @@
 use Rattle.std.proofs.Common.{◌+◌, ◌-◌, ◌∙◌, min, take, drop, get_or, ap, sym}
 use Rattle.guest_mem.specs.Memory.{may}
 use Rattle.guest_sys.specs.declared.vectors.Iovec.{Iovec}
-use Rattle.guest_sys.specs.Vectors.{each_allowed, addresses_of}
 use Rattle.guest_sys.proofs.VectorLemmas.{allowed_at, false_and, true_and}
 use Rattle.guest_sys.proofs.vectors.may_use.Goals as goal
+use Rattle.guest_sys.specs.inner.Bodies.{addresses_of, each_allowed}
 
 abbrev nothing : Iovec
 nothing = record { addr = 0; len = 0 }

@@ -1,6 +1,6 @@
 use Rattle.std.proofs.Common.{◌≡◌, take, drop}
-use Rattle.guest_sys.specs.Vectors.{each_allowed, addresses_of}
 use Rattle.guest_sys.proofs.vectors.may_use.Given as goal
+use Rattle.guest_sys.specs.inner.Bodies.{addresses_of, each_allowed}
 
 abbrev pub invariant-iovecs : goal.invariant-iovecs
 invariant-iovecs l =

@@ -1,6 +1,7 @@
 use Rattle.std.proofs.Common.{◌≡◌, true, length, take, drop}
-use Rattle.guest_sys.specs.Vectors.{each_allowed, addresses_of, put_each}
+use Rattle.guest_sys.specs.Vectors.{put_each}
 use Rattle.guest_sys.proofs.vectors.scatter.Given as goal
+use Rattle.guest_sys.specs.inner.Bodies.{addresses_of, each_allowed}
 
 abbrev pub invariant-iovecs : goal.invariant-iovecs
 invariant-iovecs l = record {
