@@ -1,5 +1,6 @@
 -- What an event keeps of a stack is a lower end of it, and keeps its root.
 use Rattle.std.proofs.Common.{◌≡◌, ◌-◌, ◌<◌, ◌≤◌, ◌&&◌, Bool, true, false, cond, List, [], ◌∷◌, ◌++◌, length, drop}
+use Rattle.std.specs.Option.{unwrap_or}
 use Rattle.std.proofs.Common.{Option, Some, None, refl, sym, ap, subst, ◌∙◌, arith, append_assoc, length-append}
 use Rattle.event_costs.specs.declared.event.Event.{Event}
 use Rattle.event_costs.specs.declared.event.Flow.{Flow}
@@ -9,7 +10,7 @@ use Rattle.sym_map.specs.SymbolMap.{SymbolMap}
 use Rattle.shadow_stack.specs.Kinds.{is_jump, is_root, is_left_by, returns_by}
 use Rattle.shadow_stack.specs.Stacks.{Activation, Stack, Group, is_activation_of, is_rooted, members, groups, on_groups, stack_of_groups}
 use Rattle.shadow_stack.specs.Changes.{Change, beneath_call, drop_groups, is_under, is_returned_from, remaining_groups}
-use Rattle.shadow_stack.specs.Changes.{rest_or_groups, cut, down_to, settle, settle_on, change, change_by, next_func}
+use Rattle.shadow_stack.specs.Changes.{cut, down_to, settle, settle_on, change, change_by, next_func}
 use Rattle.shadow_stack.proofs.KindLemmas.{not_root_left, not_root_below, not_root_level, not_root_returns}
 
 -- a lower end of a stack
@@ -100,7 +101,8 @@ beneath_call-end e (a ∷ s) rest found = by_test (is_left_by e a.kind) found (b
 pub cut-end : (syms : SymbolMap) (e : Event) (s : Stack) → IsEnd (cut syms e s) s
 cut-end syms e s = by_call (beneath_call e s) (beneath_call-end e s)
   where
-    by_call : (o : Option Stack) → ((rest : Stack) → o ≡ Some rest → IsEnd rest s) → IsEnd (rest_or_groups syms e s o) s
+    by_call : (o : Option Stack) → ((rest : Stack) → o ≡ Some rest → IsEnd rest s)
+        → IsEnd (unwrap_or o (stack_of_groups (remaining_groups syms e (groups s)))) s
     by_call (Some rest) ends = ends rest refl
     by_call None ends = subst (λ (t : Stack). IsEnd (stack_of_groups (remaining_groups syms e (groups s))) t) (stack_of_groups-groups s)
         (remaining_groups-end syms e (groups s))
@@ -225,7 +227,7 @@ pub cut-rooted : (syms : SymbolMap) (e : Event) (s : Stack) → is_rooted s ≡ 
 cut-rooted syms e s rooted = by_call (beneath_call e s) (λ rest found. beneath_call-rooted e s rest found rooted)
   where
     by_call : (o : Option Stack) → ((rest : Stack) → o ≡ Some rest → is_rooted rest ≡ true)
-        → is_rooted (rest_or_groups syms e s o) ≡ true
+        → is_rooted (unwrap_or o (stack_of_groups (remaining_groups syms e (groups s)))) ≡ true
     by_call (Some rest) ends = ends rest refl
     by_call None ends = remaining_groups-rooted syms e (groups s) (ap is_rooted (stack_of_groups-groups s) ∙ rooted)
 

@@ -1,6 +1,6 @@
 -- How an event changes the stack of its thread.
 use Rattle.std.specs.Prelude.{ℕ, ◌-◌, ◌&&◌, Bool, false, not, List, [], ◌∷◌, length, Option, None, Some, if◌then◌else◌}
-use Rattle.std.specs.Option.{option_map}
+use Rattle.std.specs.Option.{option_map, unwrap_or}
 use Rattle.event_costs.specs.declared.event.Event.{Event}
 use Rattle.event_costs.specs.declared.event.Flow.{Flow}
 use Rattle.event_costs.specs.declared.event.Flow.TheVariants.{Call, Jump, Swap, Plain}
@@ -47,13 +47,9 @@ abbrev pub remaining_groups : SymbolMap → Event → List Group → List Group
 remaining_groups syms e [] = []
 remaining_groups syms e (g ∷ gs) = if returns_by e g.base.kind then gs else above_sp syms e (g ∷ gs)
 
-abbrev pub rest_or_groups : SymbolMap → Event → Stack → Option Stack → Stack
-rest_or_groups syms e s (Some rest) = rest
-rest_or_groups syms e s None = stack_of_groups (remaining_groups syms e (groups s))
-
 -- what a jump leaves of a stack
 abbrev pub cut : SymbolMap → Event → Stack → Stack
-cut syms e s = rest_or_groups syms e s (beneath_call e s)
+cut syms e s = unwrap_or (beneath_call e s) (stack_of_groups (remaining_groups syms e (groups s)))
 
 -- what is left of a stack, and what is pushed on it
 pub record Change : Type 0 where

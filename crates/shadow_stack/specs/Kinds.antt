@@ -13,34 +13,28 @@ jump = Jump
 
 abbrev pub is_root : Kind → Bool
 is_root Root = true
-is_root (Call ret sp) = false
-is_root Jump = false
+is_root kind = false
 
 abbrev pub is_jump : Kind → Bool
-is_jump Root = false
-is_jump (Call ret sp) = false
 is_jump Jump = true
+is_jump kind = false
 
 -- a call that returns to the event's next pc with its stack pointer
 abbrev pub is_left_by : Event → Kind → Bool
-is_left_by e Root = false
 is_left_by e (Call ret sp) = ret == e.done.next && sp == e.done.sp
-is_left_by e Jump = false
+is_left_by e kind = false
 
 -- a call that returns to the event's next pc
 abbrev pub returns_by : Event → Kind → Bool
-returns_by e Root = false
 returns_by e (Call ret sp) = ret == e.done.next
-returns_by e Jump = false
+returns_by e kind = false
 
 -- a call whose stack pointer is below that of the event, both as unsigned numbers
 abbrev pub is_below : Event → Kind → Bool
-is_below e Root = false
 is_below e (Call ret sp) = nat_lt sp e.done.sp
-is_below e Jump = false
+is_below e kind = false
 
 -- a call whose stack pointer is that of the event
 abbrev pub is_level : Event → Kind → Bool
-is_level e Root = false
 is_level e (Call ret sp) = sp == e.done.sp
-is_level e Jump = false
+is_level e kind = false
