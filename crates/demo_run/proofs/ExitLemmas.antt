@@ -11,10 +11,10 @@ use Rattle.guest_load.specs.declared.thread.Thread.{Thread}
 use Rattle.guest_load.specs.Guest.{Guest}
 use Rattle.guest_load.specs.Lawful.{IsLawful, IsThread}
 use Rattle.guest_sched.specs.RunQueue.{RunQueue}
-use Rattle.guest_sched.specs.Engine.{Engine, first_engine, first_queue, runner}
+use Rattle.guest_sched.specs.Engine.{Engine, first_engine, runner}
 use Rattle.guest_sched.specs.Machine.{Machine, new_machine, next, unless_given, with_machine}
-use Rattle.guest_sched.specs.Step.{MachineStep, by_runner, step, unless_exited}
-use Rattle.demo_run.proofs.Others.{begins_times}
+use Rattle.guest_sched.specs.Step.{MachineStep, step, step_at}
+use Rattle.demo_run.proofs.Others.{begins_times, first_queue}
 use Rattle.demo_make.specs.Program.{demo, IsFileOf}
 use Rattle.demo_run.proofs.Left.{all_left}
 use Rattle.demo_run.proofs.Lives.{GoesOn, Leads, Lives, Main, Suits, bare, main_no, most_fails, ways_of}
@@ -36,7 +36,7 @@ exited_ends : (m : Machine) → m.given ≡ None → m.engine.exit ≡ Some 0 �
 unfolding next step
 exited_ends m given exits =
     ap (λ o. unless_given o (with_machine (step m.engine))) given
-    ∙ ap (λ o. with_machine (unless_exited o (by_runner m.engine (runner m.engine)))) exits
+    ∙ ap (λ o. with_machine (step_at m.engine o (runner m.engine))) exits
 
 -- ---- the run
 

@@ -1,5 +1,6 @@
 -- Each step of a machine that goes on: which it is, and what it leads to.
 use Rattle.std.proofs.Common.{◌≡◌, ◌≢◌, ℕ, zero, suc, ◌+◌, ◌*◌, ◌<◌, ◌≤◌, ◌⊎◌, List, [], ◌∷◌, ◌++◌, length, get_or}
+use Rattle.std.specs.List.{slice_get}
 use Rattle.std.proofs.Common.{refl, sym, ap, ◌∙◌, arith, subst}
 use Rattle.std.proofs.Common.{Option, Some, None, inl, inr}
 use Rattle.std.specs.Prelude.{slice_set, ◌==◌}
@@ -14,7 +15,7 @@ use Rattle.guest_sys.specs.declared.caller.Caller.{Caller}
 use Rattle.guest_sched.specs.declared.turns.Fate.{Fate}
 use Rattle.guest_sched.specs.declared.turns.Fate.TheVariants as fate
 use Rattle.guest_sched.specs.RunQueue.{after_step}
-use Rattle.guest_sched.specs.Engine.{Engine, first_of, runner}
+use Rattle.guest_sched.specs.Engine.{Engine, runner}
 use Rattle.demo_run.proofs.Others.{moved, run_is, runner_there}
 use Rattle.demo_run.proofs.Places.{word_of}
 use Rattle.demo_run.proofs.WayLemmas.{each}
@@ -160,7 +161,7 @@ module _ (size fails left : ℕ) (main : Main) (lives : Lives) (w : Engine)
   -- ---- who runs
 
   first_ready : (now : Main) → Suits lives now → times_in main_no w.run_queue.ready ≡ main_times now
-      → (u : ThreadNo) × (first_of w.run_queue.ready ≡ Some u)
+      → (u : ThreadNo) × (slice_get w.run_queue.ready 0 ≡ Some u)
   first_ready (Main.sleeps t) suits times =
       someone (record { 0 = t + 2 }) w.run_queue.ready (is.others_ready t suits.3)
   first_ready now suits times = someone main_no w.run_queue.ready (omega arith)
@@ -171,7 +172,7 @@ module _ (size fails left : ℕ) (main : Main) (lives : Lives) (w : Engine)
       let found = runner_there w first.0 is.lively first.1 in
       (found.0, is_running w found.0 is.lively found.1)
 
-  runs_first : (c : Caller) → IsRunning w c → first_of w.run_queue.ready ≡ Some c.thread.no
+  runs_first : (c : Caller) → IsRunning w c → slice_get w.run_queue.ready 0 ≡ Some c.thread.no
   runs_first c running = (run_is w c is.lively running.runs).first
 
   -- ---- what a step leads to
@@ -219,7 +220,7 @@ module _ (size fails left : ℕ) (main : Main) (lives : Lives) (w : Engine)
         ((on_way size left ways words w c (stop_of main) is.under_way running (stop_of main, left)).number
         ∙ main_number main)
 
-    first_main : first_of w.run_queue.ready ≡ Some main_no
+    first_main : slice_get w.run_queue.ready 0 ≡ Some main_no
     first_main = runs_first c running ∙ ap (λ (t : ThreadNo). Some t) is_main
 
     -- the same threads live

@@ -6,12 +6,11 @@ use Rattle.std.specs.Prelude.{slice_index}
 use Rattle.guest_mem.specs.Memory.{Memory}
 use Rattle.rv_decode.specs.declared.instr.Instr.{Instr}
 use Rattle.rv_step.specs.Code.{instruction_at}
-use Rattle.rv_step.specs.Forms.{set}
 use Rattle.rv_step.specs.Numbers.{wrapped}
 use Rattle.demo_make.specs.Instructions.{addi, lui}
 use Rattle.demo_run.proofs.Going.{Holds}
 use Rattle.demo_run.proofs.Amid.{IsHeld, Slot, Will}
-use Rattle.demo_run.proofs.WillLemmas.{will-addi, will-lui}
+use Rattle.demo_run.proofs.WillLemmas.{set, will-addi, will-lui}
 
 -- ---- where instructions stand
 

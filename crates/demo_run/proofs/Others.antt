@@ -8,6 +8,6 @@ pub use Rattle.guest_mem.proofs.Accesses.{elsewhere-stored, loaded_bytes, stored
 pub use Rattle.guest_mem.proofs.Memories.{get-memory_of}
 pub use Rattle.guest_mem.proofs.Ranges.{bytes_at-is, bytes_at-written, may-from, may-written, may_at}
 pub use Rattle.guest_sched.proofs.MoveLemmas.{moved, run_is, runner_there, turned_exit, turned_sys}
-pub use Rattle.guest_sched.proofs.TurnLemmas.{begins_times, ran_times}
+pub use Rattle.guest_sched.proofs.TurnLemmas.{begins_times, first_queue, ran_times}
 pub use Rattle.rv_decode.proofs.CodingLemmas.{decoded-encoded, encoded-below}
 pub use Rattle.rv_step.proofs.StoreLemmas.{step-found}

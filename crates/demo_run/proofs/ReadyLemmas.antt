@@ -1,5 +1,6 @@
 -- Who is ready after a step, and who waits.
 use Rattle.std.proofs.Common.{◌≡◌, ◌≢◌, ℕ, ◌+◌, ◌<◌, ◌≤◌, ◌==◌, cond, List, [], ◌∷◌, ◌++◌, drop, Some}
+use Rattle.std.specs.List.{slice_get}
 use Rattle.std.proofs.Common.{refl, ap, ◌∙◌, arith}
 use Rattle.std.proofs.lemmas.Bool.{cond-true, cond-false, eq-eqb, ne_eqb}
 use Rattle.event_costs.specs.declared.numbers.ThreadNo.{ThreadNo}
@@ -8,7 +9,6 @@ use Rattle.demo_run.proofs.Others.{ran_times, times_in-append, times_in-cons}
 use Rattle.guest_sys.specs.Laws.{times_in}
 use Rattle.guest_sched.specs.declared.turns.Fate.TheVariants as fate
 use Rattle.guest_sched.specs.RunQueue.{RunQueue, after_step, with_threads}
-use Rattle.guest_sched.specs.Engine.{first_of}
 use Rattle.demo_run.proofs.Places.{word_of}
 use Rattle.demo_run.proofs.WayLemmas.{each}
 use Rattle.demo_run.proofs.Lives.{Main, main_no, queue_of}
@@ -29,11 +29,11 @@ times_other t u other =
 
 -- ---- who is first
 
-pub someone : (t : ThreadNo) (us : List ThreadNo) → 1 ≤ times_in t us → (u : ThreadNo) × (first_of us ≡ Some u)
+pub someone : (t : ThreadNo) (us : List ThreadNo) → 1 ≤ times_in t us → (u : ThreadNo) × (slice_get us 0 ≡ Some u)
 someone t [] some = absurd (omega arith)
 someone t (u ∷ us) some = (u, refl)
 
-pub first_there : (u : ThreadNo) (us : List ThreadNo) → first_of us ≡ Some u → 1 ≤ times_in u us
+pub first_there : (u : ThreadNo) (us : List ThreadNo) → slice_get us 0 ≡ Some u → 1 ≤ times_in u us
 first_there u [] is = cc
 first_there u (v ∷ us) is =
     let one : ◌≡◌ {A = ℕ} (cond {A = ℕ} (v.0 == u.0) 1 0) 1 = cond-true {A = ℕ} (v.0 == u.0) 1 0 (eq-eqb v.0 u.0 same)
@@ -51,11 +51,11 @@ pub times_runs : (t : ThreadNo) (ts : List ThreadNo) (line : RunQueue)
 times_runs t ts line = ran_times t (with_threads ts line) ∙ times_in-append t line.ready ts
 
 -- it goes on no more
-pub times_leaves : (t u : ThreadNo) (ts : List ThreadNo) (line : RunQueue) → first_of line.ready ≡ Some u
+pub times_leaves : (t u : ThreadNo) (ts : List ThreadNo) (line : RunQueue) → slice_get line.ready 0 ≡ Some u
     → times_in t (after_step fate.Leaves ts line).ready + times_in t (u ∷ []) ≡ times_in t line.ready + times_in t ts
 times_leaves t u ts line is = without line.ready is
   where
-    without : (us : List ThreadNo) → first_of us ≡ Some u
+    without : (us : List ThreadNo) → slice_get us 0 ≡ Some u
         → times_in t (drop 1 (us ++ ts)) + times_in t (u ∷ []) ≡ times_in t us + times_in t ts
     without [] is = cc
     without (v ∷ us) is =

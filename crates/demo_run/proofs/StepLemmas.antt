@@ -19,7 +19,7 @@ use Rattle.guest_sched.specs.declared.turns.Fate.TheVariants as fate
 use Rattle.guest_sched.specs.RunQueue.{RunQueue, after_step, ends_turn}
 use Rattle.demo_run.proofs.Others.{begins_times, turned_exit, turned_sys}
 use Rattle.guest_sched.specs.Engine.{Engine, engine_after_step, next_turn, runner}
-use Rattle.guest_sched.specs.Step.{MachineStep, by_answer, by_runner, hart_of, step, unless_exited, with_instruction}
+use Rattle.guest_sched.specs.Step.{MachineStep, by_answer, hart_of, step, with_instruction, step_at}
 use Rattle.guest_sched.specs.Step.{with_regs}
 use Rattle.demo_run.proofs.Amid.{IsHeld, IsNext, Keeps, Slot, Will}
 use Rattle.demo_run.proofs.Ways.{AreGiven, AreOnWays, AreOthers, IsAtStop, IsOnWay, IsRunning, IsUnderWay, LeadsTo}
@@ -187,7 +187,7 @@ module _ (size n : ℕ) (ways : List (Stop × ℕ)) (words : List ℕ) (w : Engi
       record {
         told = answer.0;
         after = ended;
-        is = ap (λ o. unless_exited o (by_runner w (runner w))) is.goes_on ∙ ap (by_runner w) running.runs ∙ answer.1;
+        is = ap (λ o. step_at w o (runner w)) is.goes_on ∙ ap (step_at w None) running.runs ∙ answer.1;
         under_way = record {
           goes_on = turned_exit fate.Runs [] (with_instruction w c after) ∙ is.goes_on;
           threads = subst (λ (k : Kernel). AreOnWays size k.guest.mem (slice_set ways c.place (stop, n))

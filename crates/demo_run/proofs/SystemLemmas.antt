@@ -1,7 +1,8 @@
 -- A system call of the demonstration, by its row.
 use Rattle.std.proofs.Common.{◌≡◌, ◌≢◌, ℕ, ◌+◌, ◌-◌, ◌*◌, ◌%◌, ◌^◌, ◌<◌, true, false, [], length, refl, ap, ◌∙◌, arith}
 use Rattle.std.proofs.Common.{Some}
-use Rattle.std.specs.Prelude.{◌==◌, nat_le, ◌||◌}
+use Rattle.std.specs.Prelude.{◌==◌, nat_le, ◌||◌, Err, None, Option}
+use Rattle.std.specs.Option.{option_map_or}
 use Rattle.std.proofs.lemmas.Bool.Decides.{nat_tests}
 use Rattle.event_costs.specs.declared.numbers.ThreadNo.{ThreadNo}
 use Rattle.rv_step.specs.Effects.{effect_of}
@@ -10,14 +11,14 @@ use Rattle.demo_run.proofs.Others.{step-found}
 use Rattle.guest_mem.specs.Memory.{load_at, may}
 use Rattle.guest_futex.specs.Waits.{enqueue, woken_at}
 use Rattle.guest_sys.specs.Kernel.{kernel_of}
-use Rattle.guest_sys.specs.CallRow.{call_row, row_by, row_for}
+use Rattle.guest_sys.specs.CallRow.{call_row, row_for}
 use Rattle.guest_sys.specs.Futexes.{futex}
 use Rattle.guest_sys.specs.Table.{row_at}
 use Rattle.guest_sys.specs.Threads.{clone, exit}
 use Rattle.guest_sys.specs.declared.caller.Caller.{Caller}
 use Rattle.guest_sys.specs.declared.effect.Act.TheVariants as act
 use Rattle.guest_sched.specs.Engine.{Engine, runner}
-use Rattle.guest_sched.specs.Step.{by_answer, by_row, by_runner, call_step, hart_of, step, unless_exited}
+use Rattle.guest_sched.specs.Step.{by_answer, by_row, call_step, hart_of, step, step_at}
 use Rattle.demo_make.specs.Instructions.{ecall}
 use Rattle.demo_run.proofs.Places.{Registers, cloning, ending, looking, waiting, word_of}
 use Rattle.demo_run.proofs.SystemCalls.{IsCalling, after_clone, after_exit, answered, caller, calls}
@@ -26,10 +27,10 @@ use Rattle.demo_run.proofs.SystemCalls.{IsCalling, after_clone, after_exit, answ
 called : (w : Engine) (c : Caller) → IsCalling w c → step w ≡ by_row w c (row_for w.kernel c)
 unfolding step call_step call_row effect_of
 called w c is =
-    ap (λ o. unless_exited o (by_runner w (runner w))) is.goes_on
-    ∙ ap (by_runner w) is.runs
+    ap (λ o. step_at w o (runner w)) is.goes_on
+    ∙ ap (step_at w None) is.runs
     ∙ ap (λ (o : Outcome). by_answer w c o.stepped o.after) (step-found (hart_of w c) ecall is.call)
-    ∙ ap (λ o. by_row w c (row_by w.kernel o)) is.found
+    ∙ ap (λ (o : Option Caller). by_row w c (option_map_or (row_for w.kernel) o (Err 0))) is.found
 
 pub cloned : (w : Engine) (t place pc clear : ℕ) (who : ThreadNo) (r : Registers)
     → IsCalling w (caller place who pc (cloning t r) clear)

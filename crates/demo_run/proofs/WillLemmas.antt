@@ -3,7 +3,7 @@ use Rattle.std.proofs.Common.{◌⊎◌, inl, inr}
 use Rattle.std.proofs.Common.{◌≡◌, ℕ, suc, ◌+◌, ◌-◌, ◌*◌, ◌%◌, ◌^◌, ◌≤◌, Bool, true, false, not, List, [], ◌∷◌, refl}
 use Rattle.std.proofs.Common.{sym, ap, ◌∙◌, arith, subst}
 use Rattle.std.proofs.Common.{Option, Some, ℤ, pos, cond, inr}
-use Rattle.std.specs.Prelude.{slice_index, int_lt, ◌==◌}
+use Rattle.std.specs.Prelude.{slice_index, slice_set, if◌then◌else◌, int_lt, ◌==◌}
 use Rattle.std.specs.Option.{option_map}
 use Rattle.event_costs.specs.declared.event.Flow.TheVariants.{Plain}
 use Rattle.event_costs.specs.declared.event.Touch.TheVariants as touch
@@ -14,7 +14,7 @@ use Rattle.rv_decode.specs.declared.instr.Op.TheVariants.{BEQ, BLT, BNE}
 use Rattle.rv_step.specs.Code.{instruction_at}
 use Rattle.rv_step.specs.Effects.{step_of, effect_of}
 use Rattle.rv_step.specs.Promises.{UnlessRetired}
-use Rattle.rv_step.specs.Forms.{Outcome, set, computes, loads, reads, stores, branches, jumps, retires, faults}
+use Rattle.rv_step.specs.Forms.{Outcome, computes, loads, reads, stores, branches, jumps, retires, faults}
 use Rattle.rv_step.specs.Forms.{misaligned}
 use Rattle.rv_step.specs.Numbers.{wrapped, signed}
 use Rattle.demo_run.proofs.Others.{step-found}
@@ -25,6 +25,10 @@ use Rattle.demo_make.specs.Layout.{code_addr, child_addr, function_addr}
 use Rattle.demo_run.proofs.Going.{hart}
 use Rattle.demo_run.proofs.MemoryLemmas.{load-apart, code-kept, may-kept}
 use Rattle.demo_run.proofs.Amid.{AreAbove, AreIn, AreStored, Keeps, IsHeld, IsNext, Slot, Will}
+
+-- a register written; x0 stays 0
+abbrev pub set : List ℕ → ℕ → ℕ → List ℕ
+set x k value = if k == 0 then x else slice_set x k value
 
 -- ---- stores
 

@@ -1,5 +1,6 @@
 -- A system call of the running thread: who is ready after it, and that it is the step of its row.
 use Rattle.std.proofs.Common.{◌≡◌, ◌≢◌, ℕ, suc, ◌+◌, ◌-◌, ◌<◌, ◌≤◌, ◌==◌, Bool, true, false, cond, List, [], ◌∷◌, ◌++◌}
+use Rattle.std.specs.List.{slice_get}
 use Rattle.std.proofs.Common.{length, map, drop, get_or, Some, None, Ok, Err, refl, sym, ◌∙◌, ap, subst, inl, inr}
 use Rattle.std.proofs.Common.{arith}
 use Rattle.std.proofs.lemmas.Bool.{cases_eq, cond-true, cond-false, eq-eqb, ne_eqb}
@@ -23,7 +24,7 @@ use Rattle.guest_sched.specs.declared.engine.Engine.{Engine as EngineFields}
 use Rattle.guest_sched.specs.declared.turns.Fate.{Fate}
 use Rattle.guest_sched.specs.declared.turns.Fate.TheVariants as fate
 use Rattle.guest_sched.specs.RunQueue.{RunQueue, with_threads, after_step}
-use Rattle.guest_sched.specs.Engine.{Engine, first_of, runner}
+use Rattle.guest_sched.specs.Engine.{Engine, runner}
 use Rattle.guest_sched.specs.Step.{by_row, call_step, fate_of, signal_of, unless_killed}
 use Rattle.guest_sched.specs.inner.Sound.{IsLively, engine_of}
 use Rattle.guest_sched.proofs.PlaceLemmas.{nowhere, rising_between, thread_number}
@@ -140,7 +141,7 @@ live_once t (u ∷ ts) rise = elim (cases_eq t.0 u.no.0) [
 ]
 
 pub first_idle : (ready : List ThreadNo) (s : Kernel) (t : ThreadNo) → IsLively ready s
-    → IsStrictlyIncreasing (map thread_number s.guest.threads) → first_of ready ≡ Some t → times_waiting t s.waits ≡ 0
+    → IsStrictlyIncreasing (map thread_number s.guest.threads) → slice_get ready 0 ≡ Some t → times_waiting t s.waits ≡ 0
 first_idle [] s t lively rise is = cc
 first_idle (u ∷ us) s t lively rise is =
     let same : t.0 ≡ u.0 = ap (λ (v : ThreadNo). v.0) (sym (same_some u t is)) in
@@ -150,14 +151,14 @@ first_idle (u ∷ us) s t lively rise is =
     same_some x y e = cc
 
 -- the runner is the first ready thread
-pub runner_first : (w : Engine) (t : ThreadNo) → first_of w.run_queue.ready ≡ Some t
+pub runner_first : (w : Engine) (t : ThreadNo) → slice_get w.run_queue.ready 0 ≡ Some t
     → runner w ≡ caller_of t w.kernel.guest.threads
 unfolding runner
 runner_first w t first = ap (option_and_then (λ u. caller_of u w.kernel.guest.threads)) first
 
 -- ---- who is ready after a call
 
-without_first : (t first : ThreadNo) (ready more : List ThreadNo) → first_of ready ≡ Some first
+without_first : (t first : ThreadNo) (ready more : List ThreadNo) → slice_get ready 0 ≡ Some first
     → times_in t (drop 1 (ready ++ more)) + times_in t (first ∷ []) ≡ times_in t ready + times_in t more
 without_first t first [] more is = cc
 without_first t first (u ∷ us) more is =
@@ -186,7 +187,7 @@ leaves_by t caller act.ThreadEnd none = omega arith
 leaves_by t caller (act.ProcessEnd code) none = omega arith
 leaves_by t caller (act.Killed signal) none = cc
 
-passed_times : (t caller : ThreadNo) (f : Fate) (ts : List ThreadNo) (line : RunQueue) → first_of line.ready ≡ Some caller
+passed_times : (t caller : ThreadNo) (f : Fate) (ts : List ThreadNo) (line : RunQueue) → slice_get line.ready 0 ≡ Some caller
     → times_in t (after_step f ts line).ready + times_in t (leaving f caller) ≡ times_in t line.ready + times_in t ts
 unfolding leaving
 passed_times t caller fate.Runs ts line is =
@@ -196,7 +197,7 @@ passed_times t caller fate.Yields ts line is =
 passed_times t caller fate.Leaves ts line is = without_first t caller line.ready ts is
 
 pub lively_called : (caller : ThreadNo) (line : RunQueue) (old : Kernel) (effect : Effect) (new : Kernel)
-    → signal_of effect.act ≡ None → first_of line.ready ≡ Some caller → IsLively line.ready old
+    → signal_of effect.act ≡ None → slice_get line.ready 0 ≡ Some caller → IsLively line.ready old
     → IsBalanced caller old effect new
     → IsLively (after_step (fate_of effect.act) (effect.woken ++ spawned_by effect.act) line).ready new
 lively_called caller line old effect new none is lively balanced t =

@@ -24,7 +24,7 @@ use Rattle.guest_sched.specs.declared.engine.Engine.{Engine as EngineFields}
 use Rattle.guest_sched.specs.declared.turns.Fate.{Fate}
 use Rattle.guest_sched.specs.declared.turns.Fate.TheVariants as fate
 use Rattle.guest_sched.specs.RunQueue.{RunQueue, ends_turn, with_threads, goes_on, without_turn, after_step, after_own_step}
-use Rattle.guest_sched.specs.Engine.{Engine, begins, first_of, next_turn, runner, engine_after_step}
+use Rattle.guest_sched.specs.Engine.{Engine, begins, next_turn, runner, engine_after_step}
 use Rattle.guest_sched.specs.Step.{hart_of, with_instruction}
 use Rattle.guest_sched.specs.inner.Sound.{IsLively, IsSound, number_at, on_turn, engine_of}
 use Rattle.guest_sched.specs.inner.Stages.{IsAdvanced, IsExecuted, Leaves, LeavesTurned}
@@ -70,13 +70,13 @@ same_some x y e = cc
 
 -- the place of the first thread is that of the thread whose turn it is
 pub placed_first : (exit : Option ℕ) (ready : List ThreadNo) (first : ThreadNo) (found : Option ℕ)
-    → first_of ready ≡ Some first → found ≡ Some first.0
+    → slice_get ready 0 ≡ Some first → found ≡ Some first.0
     → (t : ThreadNo) → on_turn exit ready ≡ Some t → found ≡ Some t.0
 placed_first exit ready first found is there t on =
     let same : first ≡ t = same_some first t (sym is ∙ on_turn_first exit ready t on) in
     there ∙ ap (λ (u : ThreadNo). Some u.0) same
 
-pub placed_none : (exit : Option ℕ) (ready : List ThreadNo) (found : Option ℕ) → first_of ready ≡ None → (t : ThreadNo)
+pub placed_none : (exit : Option ℕ) (ready : List ThreadNo) (found : Option ℕ) → slice_get ready 0 ≡ None → (t : ThreadNo)
     → on_turn exit ready ≡ Some t → found ≡ Some t.0
 placed_none exit ready found is t on = absurd (differ (sym is ∙ on_turn_first exit ready t on))
   where
@@ -165,12 +165,12 @@ number_there ts i t is = ap (option_map (λ (u : Thread). u.no.0)) is
 pub record IsRunner (e : EngineFields) (c : Caller) : Type 0 where
   pub caller : IsCaller e.kernel.guest c
   pub place : c.place ≡ e.place
-  pub first : first_of e.run_queue.ready ≡ Some c.thread.no
+  pub first : slice_get e.run_queue.ready 0 ≡ Some c.thread.no
   pub live : 1 ≤ times_live c.thread.no e.kernel.guest.threads
 
 runner_by : (e : EngineFields) (c : Caller) (o : Option ThreadNo) → IsSound e
     → IsStrictlyIncreasing (map thread_number e.kernel.guest.threads)
-    → on_turn e.exit e.run_queue.ready ≡ o → first_of e.run_queue.ready ≡ o → IsSome o
+    → on_turn e.exit e.run_queue.ready ≡ o → slice_get e.run_queue.ready 0 ≡ o → IsSome o
     → option_and_then (λ t. caller_of t e.kernel.guest.threads) o ≡ Some c → IsRunner e c
 runner_by e c None sound rise on first some is = cc
 runner_by e c (Some t) sound rise on first some is =
@@ -187,7 +187,7 @@ runner_by e c (Some t) sound rise on first some is =
     }
 
 pub on_first : (exit : Option ℕ) (ready : List ThreadNo) → IsSome (on_turn exit ready)
-    → first_of ready ≡ on_turn exit ready
+    → slice_get ready 0 ≡ on_turn exit ready
 on_first None ready some = refl
 on_first (Some code) ready some = cc
 

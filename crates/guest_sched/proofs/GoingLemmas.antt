@@ -1,5 +1,6 @@
 -- As long as its turn lasts, a thread runs on.
 use Rattle.std.proofs.Common.{◌≡◌, ℕ, ◌+◌, ◌==◌, ◌≤◌, false, List, [], ◌∷◌, ◌++◌}
+use Rattle.std.specs.List.{slice_get}
 use Rattle.std.proofs.Common.{Some, None, refl, sym, ◌∙◌, ap, subst, inl, inr, arith}
 use Rattle.std.proofs.lemmas.Bool.Decides.{nat_tests}
 use Rattle.event_costs.specs.declared.event.Done.{Done}
@@ -12,7 +13,7 @@ use Rattle.guest_sys.specs.Kernel.{Kernel}
 use Rattle.guest_sys.specs.declared.caller.Caller.{Caller}
 use Rattle.guest_sched.specs.declared.turns.Fate.TheVariants as fate
 use Rattle.guest_sched.specs.RunQueue.{RunQueue, with_threads, goes_on}
-use Rattle.guest_sched.specs.Engine.{Engine, first_of, runner, engine_after_step}
+use Rattle.guest_sched.specs.Engine.{Engine, runner, engine_after_step}
 use Rattle.guest_sched.specs.Step.{MachineStep, event_of, hart_of, with_instruction}
 use Rattle.guest_sched.specs.Machine.{Machine, ended, known_end, running}
 use Rattle.guest_sched.specs.inner.Sound.{IsLively}
@@ -26,8 +27,8 @@ use Rattle.guest_sched.proofs.ThreadLemmas.{IsLeft, bare_lawful, numbers_differ}
 not_last : (left : ℕ) → 2 ≤ left → (left == 1) ≡ false
 not_last left more = grind (arith, nat_tests)
 
-first_entered : (ready : List ThreadNo) (thread : ThreadNo) → first_of ready ≡ Some thread
-    → first_of (ready ++ []) ≡ Some thread
+first_entered : (ready : List ThreadNo) (thread : ThreadNo) → slice_get ready 0 ≡ Some thread
+    → slice_get (ready ++ []) 0 ≡ Some thread
 first_entered [] thread is = cc
 first_entered (t ∷ ts) thread is = is
 
@@ -57,9 +58,9 @@ module _ (w : Engine) (c : Caller) (done : Done) (w' : Engine) (lawful : IsLawfu
   pub left_is : w'.run_queue.steps_left + 1 ≡ w.run_queue.steps_left
   left_is = let is = ap (λ (l : RunQueue). l.steps_left) line_is in omega (arith, is, more)
 
-  pub first_is : first_of w'.run_queue.ready ≡ Some c.thread.no
+  pub first_is : slice_get w'.run_queue.ready 0 ≡ Some c.thread.no
   first_is =
-      ap (λ (l : RunQueue). first_of l.ready) line_is
+      ap (λ (l : RunQueue). slice_get l.ready 0) line_is
       ∙ first_entered w.run_queue.ready c.thread.no (run_is w c lively runs).first
 
   abbrev told : MachineStep

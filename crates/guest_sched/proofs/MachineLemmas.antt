@@ -1,5 +1,6 @@
 -- The machine's step, from what its stages answer.
-use Rattle.std.proofs.Common.{◌≡◌, ℕ, ◌≤◌, true, false, List, [], ◌∷◌, Option, Some, None, Ok, Err, refl, sym, ◌∙◌, ap}
+use Rattle.std.proofs.Common.{◌≡◌, ℕ, ◌≤◌, true, false, List, [], ◌∷◌, Option, Some, None, Result, Ok, Err, refl, sym, ◌∙◌, ap}
+use Rattle.std.specs.List.{slice_get}
 use Rattle.std.proofs.Common.{subst}
 use Rattle.std.specs.Prelude.{IsSome}
 use Rattle.std.specs.Option.{is_none, is_some, option_and_then, option_map}
@@ -17,9 +18,8 @@ use Rattle.guest_sys.specs.CallRow.{caller_of}
 use Rattle.guest_sys.specs.declared.caller.Caller.{Caller}
 use Rattle.guest_sys.proofs.LiveLemmas.{caller_found, nobody}
 use Rattle.guest_sched.specs.declared.engine.Engine.{Engine as EngineFields}
-use Rattle.guest_sched.specs.Engine.{Engine, first_of, runner}
-use Rattle.guest_sched.specs.Step.{by_answer, by_runner, call_step, event_of, hart_of, step, tells, thread_step}
-use Rattle.guest_sched.specs.Step.{unless_exited}
+use Rattle.guest_sched.specs.Engine.{Engine, runner}
+use Rattle.guest_sched.specs.Step.{MachineStep, by_answer, call_step, event_of, hart_of, step, tells, step_at}
 use Rattle.guest_sched.specs.declared.turns.Halt.{Halt}
 use Rattle.guest_sched.specs.declared.turns.Halt.TheVariants as halt
 use Rattle.guest_sched.specs.Machine.{halt_by, halt_of}
@@ -31,11 +31,11 @@ use Rattle.guest_sched.proofs.TurnLemmas.{live_first}
 
 -- ---- ends
 
-pub first_none : (ready : List ThreadNo) → is_none (first_of ready) ≡ true → first_of ready ≡ None
+pub first_none : (ready : List ThreadNo) → is_none (slice_get ready 0) ≡ true → slice_get ready 0 ≡ None
 first_none [] is = refl
 first_none (t ∷ ts) is = cc
 
-pub first_some : (ready : List ThreadNo) → is_none (first_of ready) ≡ false → (t : ThreadNo) × (first_of ready ≡ Some t)
+pub first_some : (ready : List ThreadNo) → is_none (slice_get ready 0) ≡ false → (t : ThreadNo) × (slice_get ready 0 ≡ Some t)
 first_some [] is = absurd (differ is)
   where
     differ : true ≡ false → ⊥
@@ -46,21 +46,21 @@ pub ended_given : (m : Machine) (end : End) → m.given ≡ Some end → ended m
 unfolding ended
 ended_given m end is = ap (λ (o : Option End). or_known_end o m.engine) is
 
-pub ended_over : (m : Machine) → m.given ≡ None → ended m ≡ known_end m.engine.exit (first_of m.engine.run_queue.ready)
+pub ended_over : (m : Machine) → m.given ≡ None → ended m ≡ known_end m.engine.exit (slice_get m.engine.run_queue.ready 0)
 unfolding ended
 ended_over m is = ap (λ (o : Option End). or_known_end o m.engine) is
 
 over_step : (w : Engine) (end : End) (exit : Option ℕ) (first : Option ThreadNo) → w.exit ≡ exit
-    → first_of w.run_queue.ready ≡ first → known_end exit first ≡ Some end → step w ≡ Err end
+    → slice_get w.run_queue.ready 0 ≡ first → known_end exit first ≡ Some end → step w ≡ Err end
 unfolding step runner
 over_step w end (Some code) first exits is e =
-    ap (λ (o : Option ℕ). unless_exited o (by_runner w (runner w))) exits ∙ (λ i. Err (same i))
+    ap (λ (o : Option ℕ). step_at w o (runner w)) exits ∙ (λ i. Err (same i))
   where
     same : Exited code ≡ end
     same = cc
 over_step w end None None exits is e =
-    ap (λ (o : Option ℕ). unless_exited o (by_runner w (runner w))) exits
-    ∙ ap (λ (o : Option ThreadNo). by_runner w (option_and_then (λ t. caller_of t w.kernel.guest.threads) o)) is
+    ap (λ (o : Option ℕ). step_at w o (runner w)) exits
+    ∙ ap (λ (o : Option ThreadNo). step_at w None (option_and_then (λ t. caller_of t w.kernel.guest.threads) o)) is
     ∙ (λ i. Err (same i))
   where
     same : AllWaiting ≡ end
@@ -76,7 +76,7 @@ next_by m end (Some other) is e = ap (λ (o : Option End). unless_given o (with_
     same = cc
 next_by m end None is e =
     ap (λ (o : Option End). unless_given o (with_machine (step m.engine))) is
-    ∙ ap with_machine (over_step m.engine end m.engine.exit (first_of m.engine.run_queue.ready) refl refl e)
+    ∙ ap with_machine (over_step m.engine end m.engine.exit (slice_get m.engine.run_queue.ready 0) refl refl e)
 
 -- an end that is known is given
 pub next_ended : (m : Machine) (end : End) → ended m ≡ Some end → next m ≡ Err end
@@ -90,7 +90,7 @@ pub record Runs (m : Machine) : Type 0 where
   pub exit : m.engine.exit ≡ None
   pub turn : IsSome (on_turn m.engine.exit m.engine.run_queue.ready)
 
-runs_over : (exit : Option ℕ) (ready : List ThreadNo) → known_end exit (first_of ready) ≡ None
+runs_over : (exit : Option ℕ) (ready : List ThreadNo) → known_end exit (slice_get ready 0) ≡ None
     → (exit ≡ None) × (IsSome (on_turn exit ready))
 runs_over (Some code) ready is = cc
 runs_over None [] is = cc
@@ -122,12 +122,16 @@ runner_found e sound some =
     let found = caller_found on.0 e.kernel.guest.threads nobody live in
     (found.0, ap (option_and_then (λ t. caller_of t e.kernel.guest.threads)) first ∙ found.1)
 
+-- the step of a thread
+abbrev thread_step : Engine → Caller → Result (MachineStep × Engine) End
+thread_step w c = by_answer w c (step_of (hart_of w c)).stepped (step_of (hart_of w c)).after
+
 pub next_runs : (m : Machine) (c : Caller) → Runs m → runner m.engine ≡ Some c → next m ≡ with_machine (thread_step m.engine c)
 unfolding next step
 next_runs m c runs is =
     ap (λ (o : Option End). unless_given o (with_machine (step m.engine))) runs.given
-    ∙ ap (λ (o : Option ℕ). with_machine (unless_exited o (by_runner m.engine (runner m.engine)))) runs.exit
-    ∙ ap (λ (o : Option Caller). with_machine (by_runner m.engine o)) is
+    ∙ ap (λ (o : Option ℕ). with_machine (step_at m.engine o (runner m.engine))) runs.exit
+    ∙ ap (λ (o : Option Caller). with_machine (step_at m.engine None o)) is
 
 -- what the step is, by the answer of its instruction
 pub step_by : (w : Engine) (c : Caller) (answer given : Stepped) (w' : Engine) → IsAdvanced c w answer w' → answer ≡ given

@@ -1,5 +1,6 @@
 -- A step, whichever it is: whose it was, and what it left of threads, waits and ready threads.
 use Rattle.std.proofs.Common.{◌≡◌, ℕ, zero, suc, ◌+◌, ◌^◌, ◌<◌, ◌≤◌, ◌⊎◌, Bool, true, false, cond, List, [], ◌∷◌, ◌++◌}
+use Rattle.std.specs.List.{slice_get}
 use Rattle.std.proofs.Common.{Option, Some, None, Result, Ok, Err, refl, sym, ◌∙◌, ap, subst, inl, inr, arith}
 use Rattle.std.specs.Option.{is_some, option_and_then}
 use Rattle.event_costs.specs.declared.event.Done.{Done}
@@ -33,10 +34,10 @@ use Rattle.guest_sys.proofs.KeptLemmas.{HasShape, call_does}
 use Rattle.guest_sched.specs.declared.turns.Fate.{Fate}
 use Rattle.guest_sched.specs.declared.turns.Fate.TheVariants as fate
 use Rattle.guest_sched.specs.RunQueue.{RunQueue, ends_turn, after_step}
-use Rattle.guest_sched.specs.Engine.{Engine, first_of, runner, engine_after_step}
-use Rattle.guest_sched.specs.Step.{MachineStep, by_answer, by_row, by_runner, call_done, call_step, with_step_more, ends_thread}
+use Rattle.guest_sched.specs.Engine.{Engine, runner, engine_after_step}
+use Rattle.guest_sched.specs.Step.{MachineStep, by_answer, by_row, call_done, call_step, with_step_more, ends_thread, step_at}
 use Rattle.guest_sched.specs.Step.{event_of, guest_after, fate_of, output_of, signal_of, hart_of, step, tells}
-use Rattle.guest_sched.specs.Step.{unless_exited, unless_killed, wait_of, with_call, with_instruction, with_regs}
+use Rattle.guest_sched.specs.Step.{unless_killed, wait_of, with_call, with_instruction, with_regs}
 use Rattle.guest_sched.specs.Machine.{Machine, with_machine, next, unless_given}
 use Rattle.guest_sched.specs.Laws.{IsTried}
 use Rattle.guest_sched.specs.inner.Sound.{IsLively}
@@ -49,10 +50,10 @@ use Rattle.guest_sched.proofs.TurnLemmas.{begins_times, live_first, passed_none,
 pub record IsRun (w : Engine) (c : Caller) : Type 0 where
   pub caller : IsCaller w.kernel.guest c
   pub found : caller_of c.thread.no w.kernel.guest.threads ≡ Some c
-  pub first : first_of w.run_queue.ready ≡ Some c.thread.no
+  pub first : slice_get w.run_queue.ready 0 ≡ Some c.thread.no
   pub live : 1 ≤ times_live c.thread.no w.kernel.guest.threads
 
-run_by : (w : Engine) (c : Caller) (o : Option ThreadNo) → IsLively w.run_queue.ready w.kernel → first_of w.run_queue.ready ≡ o
+run_by : (w : Engine) (c : Caller) (o : Option ThreadNo) → IsLively w.run_queue.ready w.kernel → slice_get w.run_queue.ready 0 ≡ o
     → option_and_then (λ t. caller_of t w.kernel.guest.threads) o ≡ Some c → IsRun w c
 run_by w c None lively first is = cc
 run_by w c (Some t) lively first is =
@@ -68,7 +69,7 @@ run_by w c (Some t) lively first is =
 
 pub run_is : (w : Engine) (c : Caller) → IsLively w.run_queue.ready w.kernel → runner w ≡ Some c → IsRun w c
 unfolding runner
-run_is w c lively is = run_by w c (first_of w.run_queue.ready) lively refl is
+run_is w c lively is = run_by w c (slice_get w.run_queue.ready 0) lively refl is
 
 -- ---- after a turn
 
@@ -185,13 +186,13 @@ answer_is w c stepped.Call x w' at runs is = inr (call_is w c x w' runs at is)
 answer_is w c (stepped.Trap signal) x w' at runs is = cc
 answer_is w c (stepped.Unknown word) x w' at runs is = cc
 
-runner_by : (w : Engine) (o : Option Caller) (x : MachineStep) (w' : Engine) → runner w ≡ o → by_runner w o ≡ Ok (x, w')
+runner_by : (w : Engine) (o : Option Caller) (x : MachineStep) (w' : Engine) → runner w ≡ o → step_at w None o ≡ Ok (x, w')
     → IsInstruction w x w' ⊎ IsCall w x w'
 runner_by w None x w' runs is = cc
 runner_by w (Some c) x w' runs is = answer_is w c (step_of (hart_of w c)).stepped x w' refl runs is
 
 exit_by : (w : Engine) (o : Option ℕ) (x : MachineStep) (w' : Engine) → w.exit ≡ o
-    → unless_exited o (by_runner w (runner w)) ≡ Ok (x, w') → (w.exit ≡ None) × (IsInstruction w x w' ⊎ IsCall w x w')
+    → step_at w o (runner w) ≡ Ok (x, w') → (w.exit ≡ None) × (IsInstruction w x w' ⊎ IsCall w x w')
 exit_by w None x w' exit is = (exit, runner_by w (runner w) x w' refl is)
 exit_by w (Some code) x w' exit is = cc
 
@@ -400,7 +401,7 @@ moved w x w' lawful lively is = by (step_is w x w' is).1
 
 -- ---- who runs, and what ends a run
 
-pub runner_there : (w : Engine) (t : ThreadNo) → IsLively w.run_queue.ready w.kernel → first_of w.run_queue.ready ≡ Some t
+pub runner_there : (w : Engine) (t : ThreadNo) → IsLively w.run_queue.ready w.kernel → slice_get w.run_queue.ready 0 ≡ Some t
     → (c : Caller) × (runner w ≡ Some c)
 unfolding runner
 runner_there w t lively first =
@@ -439,7 +440,7 @@ pub tried_step : (w : Engine) (c : Caller) (end : End) → w.exit ≡ None → r
 unfolding step
 tried_step w c end exit runs is =
     tried_answer w c (step_of (hart_of w c)).stepped (step_of (hart_of w c)).after end
-    (sym (ap (λ (o : Option ℕ). unless_exited o (by_runner w (runner w))) exit ∙ ap (by_runner w) runs) ∙ is)
+    (sym (ap (λ (o : Option ℕ). step_at w o (runner w)) exit ∙ ap (step_at w None) runs) ∙ is)
 
 kept_end : (r : Result (MachineStep × Engine) End) (end : End) → with_machine r ≡ Err end → r ≡ Err end
 kept_end (Ok p) end is = cc

@@ -20,7 +20,7 @@ use Rattle.guest_sys.specs.declared.caller.Caller.{Caller}
 use Rattle.guest_sys.proofs.BalanceLemmas.{times_live-cons}
 use Rattle.guest_sys.proofs.GuestLemmas.{caller_lawful}
 use Rattle.guest_sys.proofs.LiveLemmas.{caller_found, nobody}
-use Rattle.guest_sched.specs.Engine.{Engine, first_engine, runner, first_queue}
+use Rattle.guest_sched.specs.Engine.{Engine, first_engine, runner}
 use Rattle.guest_sched.specs.Step.{MachineStep}
 use Rattle.guest_sched.specs.Machine.{Machine, ended, new_machine, next, running, running_unless}
 use Rattle.guest_sched.specs.Laws.{InOrder, IsReached, IsTried, is_step_of, is_woken, made_from, pc_after, pc_in, waits}
@@ -33,7 +33,7 @@ use Rattle.guest_sched.proofs.PlaceLemmas.{thread_number}
 use Rattle.guest_sched.proofs.RunLemmas.{EachWithin, made_push, one, pc_first, pc_made, pc_other, pc_own, waits_push}
 use Rattle.guest_sched.proofs.RunLemmas.{within_more, within_push}
 use Rattle.guest_sched.proofs.ThreadLemmas.{IsLeft, bare, bare_lawful, numbers_differ}
-use Rattle.guest_sched.proofs.TurnLemmas.{begins_times, on_turn_first}
+use Rattle.guest_sched.proofs.TurnLemmas.{begins_times, first_queue, on_turn_first}
 use Rattle.guest_futex.proofs.WaitLaws.{times_in-cons}
 
 -- what holds of the machine after the steps so far

@@ -4,7 +4,9 @@ use Rattle.std.proofs.Common.{length, map, take, drop, Option, Some, None, refl,
 use Rattle.std.proofs.lemmas.Bool.{cond-true, eq-eqb}
 use Rattle.std.proofs.lemmas.List.{append-nil, length-append, take-append-drop}
 use Rattle.std.specs.List.{remove, slice_get}
+use Rattle.std.specs.Option.{option_map_or}
 use Rattle.rand_pcg.specs.Lcg.{Lcg}
+use Rattle.rand_pcg.specs.Pcg.{pcg32}
 use Rattle.event_costs.specs.declared.numbers.ThreadNo.{ThreadNo}
 use Rattle.guest_load.specs.declared.thread.Thread.{Thread}
 use Rattle.guest_sys.specs.Kernel.{Kernel, times_live}
@@ -12,8 +14,8 @@ use Rattle.guest_sys.specs.Laws.{times_in}
 use Rattle.guest_sys.proofs.BalanceLemmas.{times_live-cons}
 use Rattle.guest_sched.specs.declared.turns.Fate.{Fate}
 use Rattle.guest_sched.specs.declared.turns.Fate.TheVariants as fate
-use Rattle.guest_sched.specs.RunQueue.{RunQueue, with_new_turn, with_turn_by, with_threads, goes_on, without_turn, after_step, after_own_step, to_front}
-use Rattle.guest_sched.specs.Engine.{begins, first_of}
+use Rattle.guest_sched.specs.RunQueue.{RunQueue, generator_of, with_drawn_turn, with_new_turn, with_threads, goes_on, without_turn, after_step, after_own_step, to_front}
+use Rattle.guest_sched.specs.Engine.{begins}
 use Rattle.guest_sched.specs.inner.Sound.{IsLively, number_at, on_turn}
 use Rattle.guest_sched.proofs.PlaceLemmas.{thread_number}
 use Rattle.guest_futex.proofs.WaitLaws.{times_in-cons, times_in-append}
@@ -43,6 +45,21 @@ pub times_in-rotated : (t : ThreadNo) (us : List ThreadNo) → times_in t (drop 
 times_in-rotated t us = omega (arith, times_in-append t (drop 1 us) (take 1 us), times_in-cut t 1 us)
 
 -- ---- a turn begins
+
+-- what a machine begins with
+abbrev pub first_queue : List Thread → ℕ → Option ℕ → RunQueue
+first_queue threads quantum seed = record {
+  ready = map (λ t. t.no) threads;
+  steps_left = 0;
+  quantum = quantum;
+  generator = generator_of seed;
+}
+
+abbrev with_turn_by : Option Lcg → RunQueue → RunQueue
+with_turn_by drawn queue =
+    option_map_or (λ g.
+    record (with_drawn_turn (pcg32 g).0 (pcg32 (pcg32 g).1).0 queue) { generator = Some (pcg32 (pcg32 g).1).1 })
+    drawn (record queue { steps_left = queue.quantum })
 
 begun_times : (t : ThreadNo) (g : Option Lcg) (line : RunQueue) → times_in t (with_turn_by g line).ready ≡ times_in t line.ready
 begun_times t None line = refl
@@ -78,7 +95,7 @@ pub begins_left : (exit : Option ℕ) (ready : List ThreadNo) (line : RunQueue) 
     → (t : ThreadNo) → on_turn exit (begins exit ready line).ready ≡ Some t → 1 ≤ (begins exit ready line).steps_left
 unfolding with_new_turn
 begins_left (Some code) ready line same h t is = cc
-begins_left None [] line same h t is = absurd (nobody (ap first_of same ∙ is))
+begins_left None [] line same h t is = absurd (nobody (ap (λ (us : List ThreadNo). slice_get us 0) same ∙ is))
   where
     nobody : None ≡ Some t → ⊥
     nobody e = cc
@@ -86,7 +103,7 @@ begins_left None (u ∷ us) line same h t is = begun_left line.generator line h
 
 -- ---- who runs is live
 
-pub live_first : (ready : List ThreadNo) (s : Kernel) (t : ThreadNo) → IsLively ready s → first_of ready ≡ Some t
+pub live_first : (ready : List ThreadNo) (s : Kernel) (t : ThreadNo) → IsLively ready s → slice_get ready 0 ≡ Some t
     → 1 ≤ times_live t s.guest.threads
 live_first [] s t lively is = cc
 live_first (u ∷ us) s t lively is =
@@ -103,7 +120,7 @@ live_first (u ∷ us) s t lively is =
 
 -- the first thread is the one whose turn it is
 pub on_turn_first : (exit : Option ℕ) (ready : List ThreadNo) (t : ThreadNo) → on_turn exit ready ≡ Some t
-    → first_of ready ≡ Some t
+    → slice_get ready 0 ≡ Some t
 on_turn_first None ready t is = is
 on_turn_first (Some code) ready t is = cc
 

@@ -1,9 +1,8 @@
 -- The machine: the guest and its waits, the ready threads with their turn, the running thread's reservation and, once
 -- the guest has exited, its exit code.
-use Rattle.std.specs.Prelude.{ℕ, List, [], ◌∷◌, map, if◌then◌else◌, Option, Some, None}
+use Rattle.std.specs.Prelude.{ℕ, List, [], ◌∷◌, map, slice_get, if◌then◌else◌, Option, None}
 use Rattle.std.specs.Option.{option_and_then}
 use Rattle.event_costs.specs.declared.numbers.ThreadNo.{ThreadNo}
-use Rattle.guest_load.specs.declared.thread.Thread.{Thread}
 use Rattle.guest_load.specs.Guest.{Guest}
 use Rattle.guest_sys.specs.Kernel.{Kernel, kernel_of}
 use Rattle.guest_sys.specs.CallRow.{caller_of}
@@ -17,23 +16,16 @@ pub record Engine : Type 0 where
   pub run_queue : RunQueue
   pub exit : Option ℕ
 
--- ---- the running thread
-
-abbrev pub first_of : List ThreadNo → Option ThreadNo
-first_of [] = None
-first_of (thread ∷ threads) = Some thread
-
--- the first ready thread, with its place among the live ones
+-- the running thread is the first ready one, with its place among the live ones
 unfoldable pub runner : Engine → Option Caller
-runner w = option_and_then (λ thread. caller_of thread w.kernel.guest.threads) (first_of w.run_queue.ready)
+runner w = option_and_then (λ thread. caller_of thread w.kernel.guest.threads) (slice_get w.run_queue.ready 0)
 
 -- ---- turns
 
 -- the next turn begins where the guest hasn't exited and a thread is ready
 abbrev pub begins : Option ℕ → List ThreadNo → RunQueue → RunQueue
-begins (Some code) ready line = line
-begins None [] line = line
 begins None (thread ∷ threads) line = with_new_turn line
+begins _ _ line = line
 
 abbrev pub next_turn : Engine → Engine
 next_turn w = record w { run_queue = begins w.exit w.run_queue.ready w.run_queue }
@@ -48,18 +40,15 @@ engine_after_step f threads w =
 -- ---- the first machine
 
 -- a guest in which nobody waits and all live threads are ready, by rising number
-abbrev pub first_queue : List Thread → ℕ → Option ℕ → RunQueue
-first_queue threads quantum seed = record {
-  ready = map (λ t. t.no) threads;
-  steps_left = 0;
-  quantum = quantum;
-  generator = generator_of seed;
-}
-
 unfoldable pub first_engine : Guest → ℕ → Option ℕ → Engine
 first_engine guest quantum seed = next_turn (record {
   kernel = kernel_of guest [];
   held = None;
-  run_queue = first_queue guest.threads quantum seed;
+  run_queue = record {
+    ready = map (λ t. t.no) guest.threads;
+    steps_left = 0;
+    quantum = quantum;
+    generator = generator_of seed;
+  };
   exit = None;
 })

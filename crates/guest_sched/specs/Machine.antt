@@ -1,5 +1,5 @@
 -- A machine as contracts see it: the machine, the end that was given, and what the last step did to those that wait.
-use Rattle.std.specs.Prelude.{◌≡◌, ℕ, List, [], Option, Some, None, Result, Ok, Err}
+use Rattle.std.specs.Prelude.{◌≡◌, ℕ, List, [], slice_get, Option, Some, None, Result, Ok, Err}
 use Rattle.std.specs.Option.{option_and_then, option_map}
 use Rattle.byte_text.specs.declared.memory.OutOfMemory.{OutOfMemory}
 use Rattle.event_costs.specs.declared.numbers.ThreadNo.{ThreadNo}
@@ -15,7 +15,7 @@ use Rattle.guest_sched.specs.declared.turns.Halt.{Halt}
 use Rattle.guest_sched.specs.declared.turns.Halt.TheVariants as halt
 use Rattle.guest_sched.specs.declared.turns.Turn.{Turn}
 use Rattle.guest_sched.specs.declared.turns.Turn.TheVariants.{Retired, RetiredOutput, Ended}
-use Rattle.guest_sched.specs.Engine.{Engine, first_engine, first_of, runner}
+use Rattle.guest_sched.specs.Engine.{Engine, first_engine, runner}
 use Rattle.guest_sched.specs.Step.{MachineStep, hart_of, step}
 
 pub record Machine : Type 0 where
@@ -43,7 +43,7 @@ known_end None (Some thread) = None
 
 abbrev pub or_known_end : Option End → Engine → Option End
 or_known_end (Some end) w = Some end
-or_known_end None w = known_end w.exit (first_of w.run_queue.ready)
+or_known_end None w = known_end w.exit (slice_get w.run_queue.ready 0)
 
 -- the end that was given; else that of an exit, or where no thread is ready
 unfoldable pub ended : Machine → Option End

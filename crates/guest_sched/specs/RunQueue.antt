@@ -1,8 +1,8 @@
 -- The threads that are ready, and the turn of the first one.
 use Rattle.std.specs.Prelude.{ℕ, ◌+◌, ◌-◌, ◌%◌, ◌==◌, Bool, true, List, ◌++◌, length, take, drop, if◌then◌else◌, Option}
-use Rattle.std.specs.Prelude.{Some, None}
+use Rattle.std.specs.Prelude.{Some}
 use Rattle.std.specs.List.{remove}
-use Rattle.std.specs.Option.{option_map}
+use Rattle.std.specs.Option.{option_map, option_map_or}
 use Rattle.rand_core.specs.Pcg32Seed.{pcg32_seed}
 use Rattle.rand_pcg.specs.Lcg.{Lcg}
 use Rattle.rand_pcg.specs.Pcg.{pcg32, pcg32_of_seed}
@@ -38,13 +38,11 @@ with_drawn_turn first second queue = record queue {
 }
 
 -- Without a seed a turn has the quantum's length. With one, two words of the generator are drawn.
-abbrev pub with_turn_by : Option Lcg → RunQueue → RunQueue
-with_turn_by None queue = record queue { steps_left = queue.quantum }
-with_turn_by (Some g) queue =
-    record (with_drawn_turn (pcg32 g).0 (pcg32 (pcg32 g).1).0 queue) { generator = Some (pcg32 (pcg32 g).1).1 }
-
 unfoldable pub with_new_turn : RunQueue → RunQueue
-with_new_turn queue = with_turn_by queue.generator queue
+with_new_turn queue =
+    option_map_or (λ g.
+    record (with_drawn_turn (pcg32 g).0 (pcg32 (pcg32 g).1).0 queue) { generator = Some (pcg32 (pcg32 g).1).1 })
+    queue.generator (record queue { steps_left = queue.quantum })
 
 -- ---- a step of a turn
 
@@ -55,14 +53,12 @@ with_threads threads queue = record queue { ready = queue.ready ++ threads }
 -- a turn ends with its last step, at a yield, and where the thread waits or has ended
 abbrev pub ends_turn : Fate → RunQueue → Bool
 ends_turn fate.Runs queue = queue.steps_left == 1
-ends_turn fate.Yields queue = true
-ends_turn fate.Leaves queue = true
+ends_turn _ queue = true
 
 -- Where its turn has ended, a thread that neither waits nor has ended follows at the end.
 abbrev pub after_turn : Fate → List ThreadNo → List ThreadNo
-after_turn fate.Runs ready = drop 1 ready ++ take 1 ready
-after_turn fate.Yields ready = drop 1 ready ++ take 1 ready
 after_turn fate.Leaves ready = drop 1 ready
+after_turn _ ready = drop 1 ready ++ take 1 ready
 
 abbrev pub without_turn : Fate → RunQueue → RunQueue
 without_turn f queue = record queue { ready = after_turn f queue.ready; steps_left = 0 }

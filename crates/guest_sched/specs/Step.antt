@@ -140,17 +140,11 @@ by_answer w c (stepped.Unknown word) after = Err (UnsupportedInstr c.thread.regs
 abbrev pub hart_of : Engine → Caller → forms.HartState
 hart_of w c = forms.hart_state c.thread.regs w.kernel.guest.mem w.held
 
-abbrev pub thread_step : Engine → Caller → Result (MachineStep × Engine) End
-thread_step w c = by_answer w c (step_of (hart_of w c)).stepped (step_of (hart_of w c)).after
+-- where the guest has exited, or no thread is ready, the run is over
+abbrev pub step_at : Engine → Option ℕ → Option Caller → Result (MachineStep × Engine) End
+step_at w (Some code) c = Err (Exited code)
+step_at w None None = Err AllWaiting
+step_at w None (Some c) = by_answer w c (step_of (hart_of w c)).stepped (step_of (hart_of w c)).after
 
-abbrev pub by_runner : Engine → Option Caller → Result (MachineStep × Engine) End
-by_runner w None = Err AllWaiting
-by_runner w (Some c) = thread_step w c
-
-abbrev pub unless_exited : {A : Type 0} → Option ℕ → Result A End → Result A End
-unless_exited None next = next
-unless_exited (Some code) next = Err (Exited code)
-
--- one step: where the guest has exited, or no thread is ready, the run is over
 unfoldable pub step : Engine → Result (MachineStep × Engine) End
-step w = unless_exited w.exit (by_runner w (runner w))
+step w = step_at w w.exit (runner w)

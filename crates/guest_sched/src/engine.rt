@@ -15,7 +15,7 @@ ghost use Rattle.guest_sys.specs.Taking.{CallTakes};
 ghost use Rattle.guest_sys.specs.declared.caller.Caller.{Caller};
 ghost use Rattle.guest_sched.specs.declared.turns.Fate.{Fate};
 ghost use Rattle.guest_sched.specs.RunQueue.{with_threads, ends_turn, after_step};
-ghost use Rattle.guest_sched.specs.Engine.{begins, first_engine, first_of, next_turn, runner, engine_after_step, first_queue};
+ghost use Rattle.guest_sched.specs.Engine.{begins, first_engine, next_turn, runner, engine_after_step};
 ghost use Rattle.guest_sched.specs.Step.{call_done, call_step, with_step_more, ends_thread, exit_of, fate_of, with_call};
 ghost use Rattle.guest_sched.specs.inner.Sound.{IsLively, IsSound, number_at, on_turn, engine_of};
 ghost use Rattle.guest_sched.specs.inner.Stages.{IsAdvanced, IsCallOutcome, IsExecuted};
@@ -164,7 +164,7 @@ impl Engine {
     #[inline]
     fn find_place(&mut self, ready: Ready)
         requires lively { IsLively self.old.run_queue.ready self.old.kernel }
-        requires first { first_of self.old.run_queue.ready ≡ Some ready.thread }
+        requires first { slice_get self.old.run_queue.ready 0 ≡ Some ready.thread }
         ensures same { self.new ≡ record self.old { place = self.new.place } }
         ensures placed { number_at self.new.kernel.guest.threads self.new.place ≡ Some ready.thread.0 }
     {
@@ -283,7 +283,7 @@ impl Engine {
     pub fn running(&self) -> &Thread
         requires sound { IsSound self.now }
         requires runs { IsSome (on_turn self.now.exit self.now.run_queue.ready) }
-        ensures first { first_of self.now.run_queue.ready ≡ Some result.now.no }
+        ensures first { slice_get self.now.run_queue.ready 0 ≡ Some result.now.no }
         ensures lawful { IsLawful self.now.kernel.guest }
         ensures thread { (c : Caller) → runner (engine_of self.now) ≡ Some c → result.now ≡ c.thread }
     {

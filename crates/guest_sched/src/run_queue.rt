@@ -1,9 +1,8 @@
 //! The ready threads, and the turn of the first one.
 
-ghost use Rattle.std.specs.Prelude.{◌≡◌, ◌==◌, ◌+◌, ◌<◌, ◌≤◌, [], ◌∷◌, ◌++◌, length, map, IfOk};
+ghost use Rattle.std.specs.Prelude.{◌≡◌, ◌==◌, ◌+◌, ◌<◌, ◌≤◌, [], ◌∷◌, ◌++◌, length, map, slice_get, IfOk};
 ghost use Rattle.std.specs.Option.{is_none, option_map, option_to_list};
 ghost use Rattle.guest_sched.specs.RunQueue.{with_new_turn, with_drawn_turn, ends_turn, with_threads, goes_on, without_turn, after_step, after_own_step, generator_of};
-ghost use Rattle.guest_sched.specs.Engine.{first_of};
 
 use crate::turns::{Fate, Turns};
 use byte_text::OutOfMemory;
@@ -66,7 +65,7 @@ impl RunQueue {
     /// The first ready thread.
     #[inline(always)]
     pub fn first(&self) -> Option<Ready>
-        ensures { option_map (λ r. r.thread) result ≡ first_of self.now.ready }
+        ensures { option_map (λ r. r.thread) result ≡ slice_get self.now.ready 0 }
     {
         self.ready.front().copied()
     }
@@ -75,7 +74,7 @@ impl RunQueue {
     #[inline(always)]
     pub fn is_empty(&self) -> bool
         ensures length { result ≡ (length self.now.ready == 0) }
-        ensures first { result ≡ is_none (first_of self.now.ready) }
+        ensures first { result ≡ is_none (slice_get self.now.ready 0) }
     {
         self.ready.is_empty()
     }

@@ -1,5 +1,7 @@
 -- One step of a run, with all that belongs to it.
 use Rattle.std.proofs.Common.{◌≡◌, ℕ, ◌+◌, ◌-◌, ◌^◌, ◌<◌, ◌≤◌, inl, List, [], ◌∷◌, ◌++◌, length}
+use Rattle.std.specs.Option.{option_or}
+use Rattle.std.specs.List.{slice_get}
 use Rattle.std.proofs.Common.{Bool, true, false, Option, None, Some, Result, Ok, Err}
 use Rattle.std.proofs.Common.{refl, ap, sym, subst, ◌∙◌, arith}
 use Rattle.std.specs.Prelude.{IsErrAnd, OnOk, is_some}
@@ -10,16 +12,16 @@ use Rattle.event_costs.specs.declared.numbers.ThreadNo.{ThreadNo}
 use Rattle.event_costs.specs.declared.outcome.End.{End}
 use Rattle.event_costs.specs.declared.outcome.Noted.{Noted}
 use Rattle.sym_map.specs.SymbolMap.{SymbolMap}
-use Rattle.guest_sched.specs.Machine.{Machine, ended, next, known_end, running, machine_step, with_given}
-use Rattle.guest_sched.specs.Engine.{first_of}
+use Rattle.guest_sched.specs.Engine.{Engine}
+use Rattle.guest_sched.specs.Machine.{Machine, ended, next, known_end, machine_step, with_given}
 use Rattle.recorder.specs.Accounts.{Recording, account}
 use Rattle.recorder.specs.Accounts as books
 use Rattle.part_dump.specs.Steps.{live}
 use Rattle.part_dump.specs.Watching.{Meaning}
 use Rattle.shadow_stack.specs.Stacks.{most_frames}
 use Rattle.profile_run.specs.Program.{Program, Options}
-use Rattle.profile_run.specs.Trace.{Stop, RunStep, bytes_to, end_before, exit_end, frames_end, waiting_end}
-use Rattle.profile_run.specs.Trace.{or_else, piece_to, pieces, sent_bytes, budget_end, steps_of, run_step, tried_at}
+use Rattle.profile_run.specs.Trace.{Stop, RunStep, bytes_to, end_before}
+use Rattle.profile_run.specs.Trace.{piece_to, pieces, sent_bytes, steps_of, run_step}
 use Rattle.profile_run.specs.inner.Standing.{Advances, Begins, CanCount, CanCut, Ending, Fails, Grows, HasBegun, HasPut}
 use Rattle.profile_run.specs.inner.Standing.{HasWritten, SendsAll}
 use Rattle.profile_run.specs.inner.Standing.{HasSent, IsCounted, IsCutAt, IsJob, IsMade, IsOver, IsStarted, IsWritten}
@@ -37,29 +39,30 @@ use Rattle.profile_run.proofs.EndLemmas.{ended_is}
 use Rattle.profile_run.proofs.EndingLemmas.{not_over, over_before, over_tried, steps_are}
 use Rattle.profile_run.proofs.RefusalLemmas.{grown, more_taken, no_memory, put_failed, sent-push, leads_on, write_failed}
 use Rattle.byte_text.specs.Memory.{memory}
+use Rattle.profile_run.proofs.TraceLemmas.{budget_end, exit_end, frames_end, runs_at, waiting_end}
 
 -- no end stands before the step
 open_over : (exit : Option ℕ) (ready : List ThreadNo) (a b : Option End)
-    → or_else (exit_end exit) (or_else a (or_else b (waiting_end ready))) ≡ None → known_end exit (first_of ready) ≡ None
+    → option_or (exit_end exit) (option_or a (option_or b (waiting_end ready))) ≡ None → known_end exit (slice_get ready 0) ≡ None
 open_over exit ready a b none =
-    let one = or_none (exit_end exit) (or_else a (or_else b (waiting_end ready))) none in
-    let two = or_none a (or_else b (waiting_end ready)) one.1 in
+    let one = or_none (exit_end exit) (option_or a (option_or b (waiting_end ready))) none in
+    let two = or_none a (option_or b (waiting_end ready)) one.1 in
     let three = or_none b (waiting_end ready) two.1 in
     by exit ready one.0 three.1
   where
-    by : (o : Option ℕ) (ts : List ThreadNo) → exit_end o ≡ None → waiting_end ts ≡ None → known_end o (first_of ts) ≡ None
+    by : (o : Option ℕ) (ts : List ThreadNo) → exit_end o ≡ None → waiting_end ts ≡ None → known_end o (slice_get ts 0) ≡ None
     by (Some code) ts e f = absurd (cc)
     by None [] e f = absurd (cc)
     by None (t ∷ ts) e f = refl
 
 -- few frames are live
-few_frames : (guest : Program) (m : Machine) (past : List RunStep) → end_before guest m past ≡ None
+few_frames : (guest : Program) (m : Engine) (past : List RunStep) → end_before guest m past ≡ None
     → live guest.syms (steps_of past) < most_frames
 few_frames guest m past none =
-    let one = or_none (exit_end m.engine.exit) _ none in
+    let one = or_none (exit_end m.exit) _ none in
     let two = or_none (budget_end guest.options.budget (length past)) _ one.1 in
     some_room (live guest.syms (steps_of past))
-    (or_none (frames_end (live guest.syms (steps_of past))) (waiting_end m.engine.run_queue.ready) two.1).0
+    (or_none (frames_end (live guest.syms (steps_of past))) (waiting_end m.run_queue.ready) two.1).0
 
 -- what an answer that isn't an error promises
 pub on_unless : {A E : Type 0} (P : Type 0) (r : Result A E) → ((e : E) → r ≡ Err e → ⊥) → OnOk r P → P
@@ -107,26 +110,26 @@ module _ {W : Type 0} (m : Meaning W) {fresh : W → SymbolMap → Type 0} {job 
 
   -- the code looks for the end that stands
   pub looked : (budget : ℕ) → budget ≡ order.options.now.budget → (e : Option End)
-      → (old.machine.given ≡ None → e ≡ or_else (exit_end old.machine.engine.exit)
-      (or_else (budget_end budget old.machine.engine.kernel.guest.steps)
-      (or_else (frames_end (books.live old.recorder)) (waiting_end old.machine.engine.run_queue.ready))))
-      → end_before guest old.machine s.past ≡ e
+      → (old.machine.given ≡ None → e ≡ option_or (exit_end old.machine.engine.exit)
+      (option_or (budget_end budget old.machine.engine.kernel.guest.steps)
+      (option_or (frames_end (books.live old.recorder)) (waiting_end old.machine.engine.run_queue.ready))))
+      → end_before guest old.machine.engine s.past ≡ e
   looked budget same e found =
       sym (found s.after.after.given
-      ∙ ap (λ n. or_else (exit_end old.machine.engine.exit)
-      (or_else (budget_end n old.machine.engine.kernel.guest.steps)
-      (or_else (frames_end (books.live old.recorder)) (waiting_end old.machine.engine.run_queue.ready))))
+      ∙ ap (λ n. option_or (exit_end old.machine.engine.exit)
+      (option_or (budget_end n old.machine.engine.kernel.guest.steps)
+      (option_or (frames_end (books.live old.recorder)) (waiting_end old.machine.engine.run_queue.ready))))
       (same ∙ ap (λ (o : Options). o.budget) (sym is.options))
-      ∙ ap (λ n. or_else (exit_end old.machine.engine.exit)
-      (or_else (budget_end guest.options.budget n)
-      (or_else (frames_end (books.live old.recorder)) (waiting_end old.machine.engine.run_queue.ready))))
+      ∙ ap (λ n. option_or (exit_end old.machine.engine.exit)
+      (option_or (budget_end guest.options.budget n)
+      (option_or (frames_end (books.live old.recorder)) (waiting_end old.machine.engine.run_queue.ready))))
       (steps_are guest s.past old.machine s.after.after.reached)
-      ∙ ap (λ n. or_else (exit_end old.machine.engine.exit)
-      (or_else (budget_end guest.options.budget (length s.past))
-      (or_else (frames_end n) (waiting_end old.machine.engine.run_queue.ready)))) s.after.after.live)
+      ∙ ap (λ n. option_or (exit_end old.machine.engine.exit)
+      (option_or (budget_end guest.options.budget (length s.past))
+      (option_or (frames_end n) (waiting_end old.machine.engine.run_queue.ready)))) s.after.after.live)
 
   -- an end stands before the step
-  pub ends_before : (end : End) → end_before guest old.machine s.past ≡ Some end → Ending m job end old parts w now
+  pub ends_before : (end : End) → end_before guest old.machine.engine s.past ≡ Some end → Ending m job end old parts w now
   ends_before end found = record {
     past = s.past;
     stop = record { end = end; tried = None };
@@ -140,22 +143,22 @@ module _ {W : Type 0} (m : Meaning W) {fresh : W → SymbolMap → Type 0} {job 
 
   -- whether an end stands, as the code tests it
   module _ (budget : ℕ) (same : budget ≡ order.options.now.budget) (b : Bool)
-      (over_is : old.machine.given ≡ None → b ≡ is_some (or_else (exit_end old.machine.engine.exit)
-      (or_else (budget_end budget old.machine.engine.kernel.guest.steps)
-      (or_else (frames_end (books.live old.recorder)) (waiting_end old.machine.engine.run_queue.ready))))) where
-    pub not_ended : b ≡ false → end_before guest old.machine s.past ≡ None
+      (over_is : old.machine.given ≡ None → b ≡ is_some (option_or (exit_end old.machine.engine.exit)
+      (option_or (budget_end budget old.machine.engine.kernel.guest.steps)
+      (option_or (frames_end (books.live old.recorder)) (waiting_end old.machine.engine.run_queue.ready))))) where
+    pub not_ended : b ≡ false → end_before guest old.machine.engine s.past ≡ None
     not_ended no_ = looked budget same None (λ given. sym (none_of _ (sym (over_is given) ∙ no_)))
 
     pub ends_at : b ≡ true → (e : Option End)
-        → (old.machine.given ≡ None → e ≡ or_else (exit_end old.machine.engine.exit)
-        (or_else (budget_end budget old.machine.engine.kernel.guest.steps)
-        (or_else (frames_end (books.live old.recorder)) (waiting_end old.machine.engine.run_queue.ready))))
+        → (old.machine.given ≡ None → e ≡ option_or (exit_end old.machine.engine.exit)
+        (option_or (budget_end budget old.machine.engine.kernel.guest.steps)
+        (option_or (frames_end (books.live old.recorder)) (waiting_end old.machine.engine.run_queue.ready))))
         → (steps : ℕ) → Advances m job steps (Ok e) old parts w now
     ends_at yes_ e found steps =
         by e (looked budget same e found)
         (ap is_some (found s.after.after.given) ∙ sym (over_is s.after.after.given) ∙ yes_)
       where
-        by : (o : Option End) → end_before guest old.machine s.past ≡ o → is_some o ≡ true
+        by : (o : Option End) → end_before guest old.machine.engine s.past ≡ o → is_some o ≡ true
             → Advances m job steps (Ok o) old parts w now
         by (Some end) is_ some = ends_before end is_
         by None is_ some = absurd (cc)
@@ -163,28 +166,28 @@ module _ {W : Type 0} (m : Meaning W) {fresh : W → SymbolMap → Type 0} {job 
   -- memory was wanting before the step
   pub starves : Fails m job (OutOfMemory memory) now × Grows job.old now
   starves = (
-    no_memory m job is.fits s.past old.machine s.after.after.run s.after.after.few parts.put.items now s.put s.sent,
+    no_memory m job is.fits s.past old.machine.engine s.after.after.run s.after.after.few parts.put.items now s.put s.sent,
     s.grows,
   )
 
-  pub runs_on : end_before guest old.machine s.past ≡ None → ended old.machine ≡ None
+  pub runs_on : end_before guest old.machine.engine s.past ≡ None → ended old.machine ≡ None
   runs_on none =
       ended_is old.machine s.after.after.given
       ∙ open_over old.machine.engine.exit old.machine.engine.run_queue.ready (budget_end guest.options.budget (length s.past))
       (frames_end (live guest.syms (steps_of s.past))) none
 
   -- no stack is deeper than may be
-  pub shallow_for : end_before guest old.machine s.past ≡ None
+  pub shallow_for : end_before guest old.machine.engine s.past ≡ None
       → ((thread : ThreadNo) → length (account old.recorder thread).frames ≤ books.live old.recorder + 1)
       → (thread : ThreadNo) → length (account old.recorder thread).frames ≤ most_frames
   shallow_for none shallow thread =
-      let few = few_frames guest old.machine s.past none in
+      let few = few_frames guest old.machine.engine s.past none in
       let same = s.after.after.live in
       let deep = shallow thread in
       omega (arith, few, same, deep)
 
   -- a step begins
-  pub started : end_before guest old.machine s.past ≡ None → (c : Counting) (v : W)
+  pub started : end_before guest old.machine.engine s.past ≡ None → (c : Counting) (v : W)
       → (begins : Begins m order.syms.now old.machine old.recorder c.recorder w v)
       → length (account old.recorder begins.thread).frames ≤ most_frames → c.machine ≡ old.machine
       → c.costs ≡ old.costs → IsStarted m job c parts v now
@@ -228,7 +231,7 @@ module _ {W : Type 0} (m : Meaning W) {fresh : W → SymbolMap → Type 0} {job 
     -- memory was wanting for the step
     pub starves_in : Fails m job (OutOfMemory memory) now × Grows job.old now
     starves_in = (
-      no_memory m job is.fits s.past old.machine s.begun.after.run s.begun.after.few parts.put.items now s.put s.sent,
+      no_memory m job is.fits s.past old.machine.engine s.begun.after.run s.begun.after.few parts.put.items now s.put s.sent,
       s.grows,
     )
 
@@ -236,7 +239,7 @@ module _ {W : Type 0} (m : Meaning W) {fresh : W → SymbolMap → Type 0} {job 
     pub ends_tried : (end : End) (c : Counting) → next old.machine ≡ Err end → c.machine ≡ with_given end old.machine
         → c.recorder ≡ old.recorder → Ending m job end c parts w now
     ends_tried end c stops given same =
-        let stop : Stop = record { end = end; tried = tried_at end (running old.machine) } in
+        let stop : Stop = record { end = end; tried = runs_at old.machine.engine } in
         let known_end =
         over_tried m job.guest job.first s.past old.machine old.costs old.recorder parts.head w s.begun end stops s.head
         s.number in
@@ -310,7 +313,7 @@ module _ {W : Type 0} (m : Meaning W) {fresh : W → SymbolMap → Type 0} {job 
             → Sends {A = A} to passed now.out now.err (Err fault) new.out new.err
             → Fails m job fault new × Grows job.old new
         unwritten A to bytes passed fault new are wrote same grows sends = (
-          write_failed m job is.fits s.past last c.machine counted.after.run counted.after.few to bytes wrote
+          write_failed m job is.fits s.past last c.machine.engine counted.after.run counted.after.few to bytes wrote
               parts.put.items now new s.put s.sent s.grows same A fault
               (subst (λ bs. Sends {A = A} to bs now.out now.err (Err fault) new.out new.err) are sends),
           grown job.old now new s.grows grows,
@@ -382,9 +385,9 @@ module _ {W : Type 0} (m : Meaning W) {fresh : W → SymbolMap → Type 0} {job 
           → Fails m job fault new × Grows job.old new
       uncuttable fault at refused =
           let counted = s.uncut.counted.after in (
-            put_failed m job is.fits past (record { last = (old.machine, past); run = counted.run }) parts.head.part
+            put_failed m job is.fits past (record { last = (old.machine.engine, past); run = counted.run }) parts.head.part
                 (files_at m job.guest job.first (steps_of past)) (inl (at.number, at.ends))
-                (leads_on m job.guest job.first past old.machine counted.run counted.few)
+                (leads_on m job.guest job.first past old.machine.engine counted.run counted.few)
                 fault now.put_faults new now_sent s.grows.puts refused,
             now_grows,
           )

@@ -1,5 +1,6 @@
 -- A step begins.
 use Rattle.std.proofs.Common.{◌≡◌, ◌≢◌, ℕ, ◌<◌, ◌≤◌, ◌==◌, ◌||◌, sum_by, Bool, true, false, List, [], ◌∷◌, ◌++◌}
+use Rattle.std.specs.Option.{option_or}
 use Rattle.std.proofs.Common.{length, map}
 use Rattle.std.proofs.Common.{Option, None, Some, refl, ap, sym, subst, ◌∙◌, arith, ◌⊎◌, inl, inr, nat_le}
 use Rattle.std.specs.Prelude.{IfSome, if◌then◌else◌}
@@ -30,17 +31,18 @@ use Rattle.part_dump.specs.Watched.{Fits, ready_pc, steps_in}
 use Rattle.part_dump.specs.Watching.{Meaning, after_call}
 use Rattle.profile_run.specs.Program.{Program}
 use Rattle.profile_run.specs.Parts.{calls_so_far}
-use Rattle.profile_run.specs.Trace.{RunStep, end_before, exit_end, frames_end, waiting_end, or_else, budget_end}
+use Rattle.profile_run.specs.Trace.{RunStep, end_before}
 use Rattle.profile_run.specs.Trace.{steps_of}
 use Rattle.profile_run.specs.inner.Standing.{AreAccounts, Begins, HasAccount, HasBegun, HaveStepped, IsAfter, IsWatched}
 use Rattle.profile_run.specs.inner.Standing.{Prepares}
 use Rattle.profile_run.proofs.AccountLemmas.{true_false}
 use Rattle.profile_run.proofs.CallLemmas.{after-append}
 use Rattle.shadow_stack.proofs.ChainLemmas.{true_of_or}
+use Rattle.profile_run.proofs.TraceLemmas.{budget_end, exit_end, frames_end, waiting_end}
 
 -- ---- no end stands before the step
 
-pub or_none : (o p : Option End) → or_else o p ≡ None → (o ≡ None) × (p ≡ None)
+pub or_none : (o p : Option End) → option_or o p ≡ None → (o ≡ None) × (p ≡ None)
 or_none None p e = (refl, e)
 or_none (Some end) p e = absurd (cc)
 
@@ -251,7 +253,7 @@ module _ {W : Type 0} (m : Meaning W) (guest : Program) (first : W) (past : List
       steps = steps-append cs (Readies t begins.pc ∷ []) ∙ append-nil (steps_in cs) ∙ watch.steps;
     }
 
-    pub begun : end_before guest machine past ≡ None → length (account r t).frames ≤ most_frames
+    pub begun : end_before guest machine.engine past ≡ None → length (account r t).frames ≤ most_frames
         → HasBegun m guest first past machine costs s v
     begun none shallow =
         let one = or_none (exit_end machine.engine.exit) _ none in

@@ -9,7 +9,7 @@ use Rattle.std.proofs.lemmas.List.{length-map, map-append}
 use Rattle.std.proofs.lemmas.List.Folds.{fold-map}
 use Rattle.event_costs.specs.Costs.{IsWhole, sum_of_costs}
 use Rattle.event_costs.specs.Runs.{Run}
-use Rattle.profile_run.proofs.Others.{Run-push, Holds, goes_where, holds_next, holds_reached, events-push}
+use Rattle.profile_run.proofs.Others.{Run-push, Holds, goes_where, holds_next, holds_reached, next_is, events-push}
 use Rattle.profile_run.proofs.Others.{length-push, own-other, own-push, stack-push, live_push, last-push}
 use Rattle.profile_run.proofs.Others.{steps-append, watched_more, from_append}
 use Rattle.event_costs.specs.declared.event.Event.{Event}
@@ -378,8 +378,10 @@ module _ {W : Type 0} (m : Meaning W) (guest : Program) (first : W) (past : List
     after_step : IsAfter guest (past ++ x ∷ []) (since ++ last ∷ []) machine after_costs s
     after_step = record {
       run =
-          Run-push (next_step guest) (start guest) past (made.before, past) x (machine, past ++ x ∷ []) begun.after.run
-          (going-step guest (made.before, past) made.outcome machine begun.goes made.makes);
+          Run-push (next_step guest) (start guest) past (made.before.engine, past) x (machine.engine, past ++ x ∷ [])
+          begun.after.run
+          (going-step guest (made.before.engine, past) made.outcome machine.engine begun.goes
+          (next_is made.before made.outcome machine made.makes).0);
       reached = reached;
       given = goes.0.given;
       few = (let more = length-push past x in let spare = begun.spare in omega (arith, more, spare));

@@ -6,17 +6,15 @@ use Rattle.std.specs.Prelude.{if◌then◌else◌}
 use Rattle.std.proofs.lemmas.Bool.Decides.{nat_tests}
 use Rattle.std.proofs.lemmas.List.{append-nil, length-map}
 use Rattle.outside.specs.Outside.{Shelf}
-use Rattle.profile_run.proofs.Others.{IsTrace-same, holds_reached, tried_end, own-append, in_right}
+use Rattle.profile_run.proofs.Others.{IsTrace-same, holds_reached, next_end, own-append, in_right}
 use Rattle.event_costs.specs.declared.numbers.ThreadNo.{ThreadNo}
 use Rattle.event_costs.specs.declared.outcome.End.{End}
-use Rattle.event_costs.specs.declared.outcome.End.TheVariants.{Exited, Killed, UnsupportedInstr, UnsupportedCall, Budget}
-use Rattle.event_costs.specs.declared.outcome.End.TheVariants.{Frames, AllWaiting}
 use Rattle.cg_format.specs.declared.trigger.Trigger.{Trigger}
 use Rattle.cg_format.specs.declared.trigger.Trigger.TheVariants.{Termination}
 use Rattle.cache_lru.specs.Costs.{RunCosts}
 use Rattle.cg_format.specs.declared.head.PartHead.{PartHead}
 use Rattle.guest_load.specs.First.{guest_at_start}
-use Rattle.guest_sched.specs.Laws.{IsReached, IsTried}
+use Rattle.guest_sched.specs.Laws.{IsReached}
 use Rattle.guest_sched.specs.Machine.{Machine, ended, next, running, running_unless, with_given}
 use Rattle.guest_sched.specs.Engine.{Engine}
 use Rattle.recorder.specs.Accounts.{Recording, account}
@@ -28,14 +26,14 @@ use Rattle.part_dump.specs.Steps.{Step, steps_of_thread, events_on_stack_of, sta
 use Rattle.part_dump.specs.Watching.{Meaning, after_calls, puts}
 use Rattle.profile_run.specs.Program.{Program}
 use Rattle.profile_run.specs.Parts.{calls_of, calls_so_far, watched_parts}
-use Rattle.profile_run.specs.Trace.{IsTraceOf, Stop, RunStep, end_before, next_step, start, steps_of, tried_at}
+use Rattle.profile_run.specs.Trace.{IsTraceOf, Stop, RunStep, end_before, next_step, start, steps_of}
 use Rattle.profile_run.specs.inner.Standing.{HasBegun, IsHead, IsOver, IsPutting, IsWatched, Plan}
 use Rattle.profile_run.specs.inner.Standing.{StandsAfter}
 use Rattle.profile_run.specs.inner.Standing.{all_calls, calls_below, files_after, files_at, since_of, machine_step_of}
 use Rattle.profile_run.proofs.CallLemmas.{calls_whole, puts-append, tried_puts}
 use Rattle.profile_run.proofs.PutLemmas.{below-all, below-next, no_calls}
 use Rattle.profile_run.proofs.PuttingLemmas.{none_left}
-use Rattle.profile_run.proofs.TraceLemmas.{going-end, going-over}
+use Rattle.profile_run.proofs.TraceLemmas.{going-end, going-over, runs_at}
 
 pub not_over : (m : Machine) (t : ThreadNo × ℕ) → running m ≡ Some t → ended m ≡ None
 unfolding running
@@ -45,15 +43,14 @@ not_over m t is = by (ended m) m.engine is
     by None w runs = refl
     by (Some end) w runs = absurd (cc)
 
--- the watch was told of what was tried
-tried_is : (end : End) (t : ThreadNo × ℕ) → IsTried end → tried_calls (tried_at end (Some t)) ≡ Readies t.0 t.1 ∷ []
-tried_is (Killed signal pc) t tried = refl
-tried_is (UnsupportedInstr pc word) t tried = refl
-tried_is (UnsupportedCall pc number) t tried = refl
-tried_is (Exited code) t tried = absurd tried
-tried_is (Budget steps) t tried = absurd tried
-tried_is Frames t tried = absurd tried
-tried_is AllWaiting t tried = absurd tried
+-- the machine knows who runs
+pub runs_as : (m : Machine) (t : ThreadNo × ℕ) → running m ≡ Some t → runs_at m.engine ≡ Some t
+unfolding running
+runs_as m t is = by (ended m) m.engine is
+  where
+    by : (o : Option End) (w : Engine) → running_unless o w ≡ Some t → runs_at w ≡ Some t
+    by None w runs = runs
+    by (Some end) w runs = absurd (cc)
 
 pub steps_are : (guest : Program) (past : List RunStep) (machine : Machine)
     → IsReached (guest_at_start guest.image guest.args guest.input) guest.options.quantum guest.options.seed
@@ -71,13 +68,13 @@ module _ {W : Type 0} (m : Meaning W) (guest : Program) (first : W) (past : List
     (costs : RunCosts) (r : Recording) (h : PartHead) (w : W) where
   -- an end stands before a step
   pub over_before : StandsAfter m guest first past machine costs r h w → (end : End)
-      → end_before guest machine past ≡ Some end
+      → end_before guest machine.engine past ≡ Some end
       → IsOver m guest first past (record { end = end; tried = None }) machine r h w
   over_before s end is = record {
     is = record {
-      last = (machine, past);
+      last = (machine.engine, past);
       run = s.after.run;
-      stop = going-over guest (machine, past) end is;
+      stop = going-over guest (machine.engine, past) end is;
     };
     threads = refl;
     steps = steps_are guest past machine s.after.reached;
@@ -97,21 +94,16 @@ module _ {W : Type 0} (m : Meaning W) (guest : Program) (first : W) (past : List
   -- a step was tried, and ends the run
   pub over_tried : HasBegun m guest first past machine costs r w → (end : End) → next machine ≡ Err end
       → IsHead guest h → h.part ≡ length (cuts guest.syms guest.options.dump_points (steps_of past)).closed + 1
-      → IsOver m guest first past (record { end = end; tried = tried_at end (running machine) })
+      → IsOver m guest first past (record { end = end; tried = runs_at machine.engine })
       (with_given end machine) r h w
   over_tried b end is head number =
-      let first_guest = guest_at_start guest.image guest.args guest.input in
-      let held =
-      holds_reached first_guest guest.options.quantum guest.options.seed (map machine_step_of past) machine b.after.reached in
-      let tried =
-      tried_end first_guest (map machine_step_of past) machine end held (not_over machine (b.thread, b.pc) b.runs) is in
-      let told : tried_calls (tried_at end (running machine)) ≡ Readies b.thread b.pc ∷ [] =
-      ap (λ o. tried_calls (tried_at end o)) b.runs ∙ tried_is end (b.thread, b.pc) tried in
+      let told : tried_calls (runs_at machine.engine) ≡ Readies b.thread b.pc ∷ [] =
+      ap tried_calls (runs_as machine (b.thread, b.pc) b.runs) in
       record {
         is = record {
-          last = (machine, past);
+          last = (machine.engine, past);
           run = b.after.run;
-          stop = going-end guest (machine, past) end b.goes is;
+          stop = going-end guest (machine.engine, past) end b.goes (next_end machine end b.after.given is);
         };
         threads = refl;
         steps = steps_are guest past machine b.after.reached;

@@ -13,7 +13,8 @@ use Rattle.profile_run.proofs.Others.{Holds, holds_next, holds_reached, all_of}
 use Rattle.recorder.specs.Laws.{IsIn}
 use Rattle.part_dump.specs.Steps.{Step, thread_of}
 use Rattle.part_dump.proofs.ApartLemmas.{files_apart}
-use Rattle.profile_run.specs.Program.{Program, first_machine, head_of_run}
+use Rattle.profile_run.specs.Program.{Program, head_of_run}
+use Rattle.profile_run.specs.Steps.{first_machine}
 use Rattle.profile_run.specs.Parts.{plain_parts}
 use Rattle.recorder.specs.Rows.{rows_of}
 use Rattle.profile_run.specs.Steps.{AreTold}

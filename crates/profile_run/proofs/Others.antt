@@ -1,6 +1,7 @@
 -- What proofs here take of those of other crates.
 pub use Rattle.event_costs.proofs.RunLemmas.{IsTrace-same, Run-push}
-pub use Rattle.guest_sched.proofs.OrderLemmas.{Holds, goes_where, holds_next, holds_reached, tried_end}
+pub use Rattle.guest_sched.proofs.MoveLemmas.{next_end, next_is}
+pub use Rattle.guest_sched.proofs.OrderLemmas.{Holds, goes_where, holds_next, holds_reached}
 pub use Rattle.outside.proofs.JournalLemmas.{tells_nothing_more, tells_then}
 pub use Rattle.part_dump.proofs.CutLemmas.{cuts_push, cuts_together}
 pub use Rattle.part_dump.proofs.LiveLemmas.{above_greatest, frames_within, live_push}

@@ -17,7 +17,7 @@ use Rattle.profile_run.proofs.Others.{tells_then}
 use Rattle.event_costs.specs.Runs.{Run}
 use Rattle.outside.specs.Write.{taken_more}
 use Rattle.event_costs.specs.declared.numbers.ThreadNo.{ThreadNo}
-use Rattle.guest_sched.specs.Machine.{Machine}
+use Rattle.guest_sched.specs.Engine.{Engine}
 use Rattle.part_dump.specs.Files.{IsFront, part_name}
 use Rattle.part_dump.specs.Watching.{Meaning, after_calls, puts}
 use Rattle.profile_run.specs.Program.{Fits, Program}
@@ -158,7 +158,7 @@ module _ {W : Type 0} (m : Meaning W) (guest : Program) (first : W) where
     pub more : List Named
     pub whole : writing.whole (steps_of trace) stop.tried ≡ files ++ more
 
-  pub leads_on : (past : List RunStep) (machine : Machine) → Run (next_step guest) (start guest) past (machine, past)
+  pub leads_on : (past : List RunStep) (machine : Engine) → Run (next_step guest) (start guest) past (machine, past)
       → length past ≤ guest.options.budget → Leads past (files_at m guest first (steps_of past))
   leads_on past machine run few =
       let w = goes_on guest past machine run few in
@@ -232,7 +232,7 @@ module _ {W : Type 0} (m : Meaning W) (job : Job W) (fits : Fits job.guest) (pas
   }
 
   -- memory was wanting
-  pub no_memory : (machine : Machine) → Run (next_step job.guest) (start job.guest) past (machine, past)
+  pub no_memory : (machine : Engine) → Run (next_step job.guest) (start job.guest) past (machine, past)
       → length past ≤ job.guest.options.budget → (parts : List PartFile) (now : Outside)
       → HasPut job.guest.options.base (files_at m job.guest job.first (steps_of past)) (shelf job.old) (shelf now) parts
       → HasSent past job.old now → Fails m job (OutOfMemory memory) now
@@ -337,7 +337,7 @@ module _ {W : Type 0} (m : Meaning W) (job : Job W) (fits : Fits job.guest) (pas
 
 -- the output of a step could not be written
 module _ {W : Type 0} (m : Meaning W) (job : Job W) (fits : Fits job.guest) (past : List RunStep) (last : RunStep)
-    (machine : Machine) (run : Run (next_step job.guest) (start job.guest) (past ++ last ∷ []) (machine, past ++ last ∷ []))
+    (machine : Engine) (run : Run (next_step job.guest) (start job.guest) (past ++ last ∷ []) (machine, past ++ last ∷ []))
     (few : length (past ++ last ∷ []) ≤ job.guest.options.budget) (to : ℕ) (bytes : List ℕ)
     (is : last.output ≡ Some (to, bytes)) (parts : List PartFile) (before now : Outside)
     (put_ : HasPut job.guest.options.base (files_at m job.guest job.first (steps_of past)) (shelf job.old)

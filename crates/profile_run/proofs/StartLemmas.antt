@@ -22,7 +22,8 @@ use Rattle.part_dump.specs.Cuts.{cuts}
 use Rattle.part_dump.specs.Steps.{Step, live}
 use Rattle.part_dump.specs.Watched.{ready_pc}
 use Rattle.part_dump.specs.Watching.{Meaning, puts}
-use Rattle.profile_run.specs.Program.{Program, first_machine, head_of_run}
+use Rattle.profile_run.specs.Program.{Program, head_of_run}
+use Rattle.profile_run.specs.Steps.{first_machine}
 use Rattle.profile_run.specs.Parts.{calls_so_far}
 use Rattle.recorder.specs.Rows.{rows_of}
 use Rattle.profile_run.specs.inner.Standing.{AreAccounts, HasPut, IsAfter, IsHead, IsHeadOf, IsWatched, Job, Standing}
@@ -87,7 +88,7 @@ module _ {W : Type 0} (m : Meaning W) (guest : Program) (old : Outside) (first :
 
   first_after : IsAfter guest [] [] counting.machine counting.costs counting.recorder
   first_after = record {
-    run = (λ i. (sym machine i, []));
+    run = (λ i. ((sym machine i).engine, []));
     reached = record { lawful = lawful; run = sym machine };
     given = ap (λ (x : Machine). x.given) machine;
     few = omega arith;

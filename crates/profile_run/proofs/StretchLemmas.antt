@@ -155,7 +155,7 @@ module _ {W : Type 0} (m : Meaning W) {fresh : W → SymbolMap → Type 0} {job 
           omega (arith, are, within, budget, longer, some)
 
       -- no end stands before the next one
-      unended : end_before job.guest c.machine past ≡ None
+      unended : end_before job.guest c.machine.engine past ≡ None
       unended =
           sym (looked.where_open c.machine counted.after.given None
           (sym (not_over c.machine (event.thread, event.done.next) runs_now)) job.guest.options.budget (length past)

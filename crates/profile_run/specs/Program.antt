@@ -1,14 +1,13 @@
 -- What a run is of: a program with its symbols, its arguments and its input, and what is asked for.
-use Rattle.std.specs.Prelude.{◌≡◌, ℕ, ◌≤◌, ◌^◌, ◌++◌, Bool, List, [], ◌∷◌, codes, flat_map, Option, None}
+use Rattle.std.specs.Prelude.{◌≡◌, ℕ, ◌≤◌, ◌^◌, Bool, List, [], codes, slice_get, unwrap_or, Option, None}
+use Rattle.std.specs.List.{join_by}
 use Rattle.cg_format.specs.declared.trigger.Trigger.TheVariants.{Termination}
 use Rattle.elf_read.specs.Image.{Image, image_of}
 use Rattle.elf_read.specs.Refusal.{refusal}
 use Rattle.sym_map.specs.SymbolMap.{IsSound, SymbolMap}
 use Rattle.guest_mem.specs.Memory.{page_limit}
 use Rattle.guest_load.specs.Arguments.{arguments_len, arguments_limit}
-use Rattle.guest_load.specs.First.{guest_at_start}
 use Rattle.guest_load.specs.Segments.{pages_of}
-use Rattle.guest_sched.specs.Machine.{Machine, new_machine}
 use Rattle.cache_lru.specs.Costs.{Shapes}
 use Rattle.cg_format.specs.declared.head.PartHead.{PartHead}
 use Rattle.part_dump.specs.Cuts.{DumpPoints}
@@ -36,15 +35,6 @@ pub record Program : Type 0 where
   pub input : List ℕ
   pub options : Options
 
--- texts joined by spaces
-abbrev pub joined_texts : List (List ℕ) → List ℕ
-joined_texts [] = []
-joined_texts (text ∷ texts) = text ++ flat_map (λ t. codes " " ++ t) texts
-
-abbrev pub first_text : List (List ℕ) → List ℕ
-first_text [] = []
-first_text (name ∷ names) = name
-
 -- The arguments and the pages of a program are within their limits.
 pub record Fits (guest : Program) : Type 0 where
   pub arguments : arguments_len guest.args ≤ arguments_limit
@@ -58,18 +48,13 @@ pub record CanRun (guest : Program) : Type 0 where
   pub sound : IsSound guest.syms
   pub budget : guest.options.budget ≤ 10 ^ 12
 
--- the machine before the first step
-abbrev pub first_machine : Program → Machine
-first_machine guest =
-    new_machine (guest_at_start guest.image guest.args guest.input) guest.options.quantum guest.options.seed
-
 -- what all parts of a run say before their rows; the thread, the number and the trigger are each part's own
 abbrev pub head_of_run : Program → PartHead
 head_of_run guest = record {
   thread = record { 0 = 1 };
   part = 1;
-  cmd = joined_texts guest.args;
-  object = first_text guest.args;
+  cmd = join_by (λ text. text) (codes " ") guest.args;
+  object = unwrap_or (slice_get guest.args 0) [];
   i1 = guest.options.shapes.i1;
   d1 = guest.options.shapes.d1;
   ll = guest.options.shapes.ll;

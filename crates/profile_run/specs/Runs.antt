@@ -93,7 +93,7 @@ pub record IsWhole (writing : Writing) (guest : Program) (run : RunEnd) (done : 
   pub is : IsTraceOf guest trace stop
   pub end : run.end ≡ stop.end
   pub steps : run.steps ≡ length trace
-  pub threads : run.threads ≡ is.last.0.engine.kernel.guest.made
+  pub threads : run.threads ≡ is.last.0.kernel.guest.made
   pub parts : ArePartsOf guest.options.base done.files run.parts
   pub output : done ≡ whole_output writing trace stop
 

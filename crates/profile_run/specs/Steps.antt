@@ -1,12 +1,16 @@
 -- The steps of a run, as its machine makes them.
 use Rattle.std.specs.Prelude.{◌≡◌, ◌<◌, List, [], ◌∷◌, ◌++◌, length}
 use Rattle.event_costs.specs.Runs.{Run}
-use Rattle.guest_sched.specs.Machine.{Machine, next}
+use Rattle.guest_sched.specs.Machine.{Machine, machine_on, next}
 use Rattle.guest_sched.specs.Step.{MachineStep}
 use Rattle.part_dump.specs.Steps.{live}
 use Rattle.shadow_stack.specs.Stacks.{most_frames}
-use Rattle.profile_run.specs.Program.{Program, first_machine}
-use Rattle.profile_run.specs.Trace.{RunStep, steps_of, run_step}
+use Rattle.profile_run.specs.Program.{Program}
+use Rattle.profile_run.specs.Trace.{RunStep, run_step, start, steps_of}
+
+-- the machine before the first step
+abbrev pub first_machine : Program → Machine
+first_machine guest = machine_on (start guest).0
 
 -- A step is what the machine told, after these steps, and there was room for it: the budget wasn't spent, and a frame
 -- more could be live.

@@ -1,13 +1,16 @@
 //! What counts the steps of a run.
 
 ghost use Rattle.std.specs.Prelude.{◌≡◌, ◌<◌, ◌≤◌, ◌^◌, ◌+◌, ◌-◌, ◌++◌, ◌∷◌, []};
-ghost use Rattle.std.specs.Prelude.{ℕ, List, None, OnOk, is_some, length, true};
+ghost use Rattle.std.specs.Prelude.{ℕ, ◌==◌, List, None, OnOk, Some, if◌then◌else◌, is_some, length, nat_le, option_map, slice_get, true};
+ghost use Rattle.std.specs.Option.{option_map_or, option_or};
+ghost use Rattle.event_costs.specs.declared.outcome.End.TheVariants.{AllWaiting, Budget, Exited, Frames};
+ghost use Rattle.shadow_stack.specs.Stacks.{most_frames};
 ghost use Rattle.part_dump.specs.Cuts.{every_cut};
 ghost use Rattle.event_costs.specs.declared.numbers.ThreadNo.{ThreadNo as ThreadNoValue};
 ghost use Rattle.cache_lru.specs.Costs.{RunCosts as RunCostsValue};
 ghost use Rattle.recorder.specs.Accounts.{account, live};
 ghost use Rattle.profile_run.specs.Program.{Program as ProgramValue};
-ghost use Rattle.profile_run.specs.Trace.{RunStep, exit_end, frames_end, waiting_end, or_else, budget_end, run_step};
+ghost use Rattle.profile_run.specs.Trace.{RunStep, run_step};
 ghost use Rattle.profile_run.specs.inner.Standing.{Begins, CanCount, CanTell, IsCostOf, IsCounted, IsMade};
 ghost use Rattle.profile_run.specs.inner.Standing.{OnlyAdds, Prepares, is_exit};
 ghost use Rattle.guest_sched.specs.Machine.{ended};
@@ -40,9 +43,11 @@ impl Counting {
     /// Whether an end stands before a step is tried: `end_before` says which.
     #[inline(always)]
     pub fn is_over(&self, budget: u64) -> bool
-        ensures over { self.now.machine.given ≡ None → result ≡ is_some (or_else (exit_end self.now.machine.engine.exit)
-            (or_else (budget_end budget self.now.machine.engine.kernel.guest.steps)
-            (or_else (frames_end (live self.now.recorder)) (waiting_end self.now.machine.engine.run_queue.ready)))) }
+        ensures over { self.now.machine.given ≡ None → result ≡ is_some (option_or
+            (option_map Exited self.now.machine.engine.exit)
+            (option_or (if self.now.machine.engine.kernel.guest.steps == budget then Some (Budget budget) else None)
+            (option_or (if nat_le most_frames (live self.now.recorder) then Some Frames else None)
+            (option_map_or (λ first. None) (slice_get self.now.machine.engine.run_queue.ready 0) (Some AllWaiting))))) }
         ensures shallow { (thread : ThreadNoValue)
             → length (account self.now.recorder thread).frames ≤ live self.now.recorder + 1 }
     {
@@ -61,9 +66,11 @@ impl Counting {
     /// as may be, or no thread is ready. The room for it is made where this is called, and not at each step.
     #[inline(always)]
     pub fn end_before(&self, budget: u64) -> Option<End>
-        ensures { self.now.machine.given ≡ None → result ≡ or_else (exit_end self.now.machine.engine.exit)
-            (or_else (budget_end budget self.now.machine.engine.kernel.guest.steps)
-            (or_else (frames_end (live self.now.recorder)) (waiting_end self.now.machine.engine.run_queue.ready))) }
+        ensures { self.now.machine.given ≡ None → result ≡ option_or
+            (option_map Exited self.now.machine.engine.exit)
+            (option_or (if self.now.machine.engine.kernel.guest.steps == budget then Some (Budget budget) else None)
+            (option_or (if nat_le most_frames (live self.now.recorder) then Some Frames else None)
+            (option_map_or (λ first. None) (slice_get self.now.machine.engine.run_queue.ready 0) (Some AllWaiting)))) }
     {
         let end = self.end_before_cold(budget);
         end
@@ -72,9 +79,11 @@ impl Counting {
     /// What `end_before` answers.
     #[cold]
     fn end_before_cold(&self, budget: u64) -> Option<End>
-        ensures { self.now.machine.given ≡ None → result ≡ or_else (exit_end self.now.machine.engine.exit)
-            (or_else (budget_end budget self.now.machine.engine.kernel.guest.steps)
-            (or_else (frames_end (live self.now.recorder)) (waiting_end self.now.machine.engine.run_queue.ready))) }
+        ensures { self.now.machine.given ≡ None → result ≡ option_or
+            (option_map Exited self.now.machine.engine.exit)
+            (option_or (if self.now.machine.engine.kernel.guest.steps == budget then Some (Budget budget) else None)
+            (option_or (if nat_le most_frames (live self.now.recorder) then Some Frames else None)
+            (option_map_or (λ first. None) (slice_get self.now.machine.engine.run_queue.ready 0) (Some AllWaiting)))) }
     {
         let ended = self.machine.ended();
         let frames = self.recorder.live_frames();

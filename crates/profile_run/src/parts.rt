@@ -1,11 +1,11 @@
 //! The parts of a run, as they are put.
 
 ghost use Rattle.std.specs.Prelude.{◌≡◌, ◌<◌, ◌≤◌, ◌+◌, ◌++◌, ◌∷◌, [], ℕ, List, IfErr, IfOk, OnOk, length, map};
-ghost use Rattle.std.specs.Prelude.{string_bytes};
+ghost use Rattle.std.specs.Prelude.{codes, string_bytes};
+ghost use Rattle.std.specs.List.{join_by};
 ghost use Rattle.event_costs.specs.declared.numbers.ThreadNo.{ThreadNo as ThreadNoValue};
 ghost use Rattle.outside.specs.Outside.{shelf_of};
 ghost use Rattle.recorder.specs.Accounts.{knows, live};
-ghost use Rattle.profile_run.specs.Program.{joined_texts, first_text};
 ghost use Rattle.profile_run.specs.declared.run_fault.RunFault.{RunFault};
 ghost use Rattle.profile_run.specs.inner.Standing.{CanPut, HasPut, IsHeadOf, IsPutting, Plan, PutsThreads, calls_below};
 ghost use Rattle.profile_run.specs.inner.Standing.{files_after};
@@ -33,7 +33,7 @@ pub struct Parts {
 
 /// The command line of a run, as its parts tell it: the arguments, joined by spaces.
 pub fn command_line(alloc: Global, args: &[String]) -> Result<Text, OutOfMemory>
-    ensures { IfOk result (λ text. text ≡ joined_texts (map string_bytes args.now)) }
+    ensures { IfOk result (λ text. text ≡ join_by (λ text. text) (codes " ") (map string_bytes args.now)) }
 {
     let Some((first, rest)) = args.split_first() else {
         return Ok(Text::new(alloc));

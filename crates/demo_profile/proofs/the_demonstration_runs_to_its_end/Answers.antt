@@ -4,7 +4,7 @@ use Rattle.elf_read.specs.Image.{Image}
 use Rattle.guest_load.specs.First.{guest_at_start}
 use Rattle.guest_sched.specs.Machine.{new_machine}
 use Rattle.demo_run.proofs.ExitLemmas.{Ends, ends}
-use Rattle.profile_run.specs.Program.{first_machine}
+use Rattle.profile_run.specs.Steps.{first_machine}
 use Rattle.profile_run.specs.Trace.{next_step, start}
 use Rattle.demo_profile.proofs.EndLemmas.{left}
 use Rattle.demo_profile.proofs.the_demonstration_runs_to_its_end.Goals as goal

@@ -6,7 +6,7 @@ use Rattle.guest_load.specs.declared.thread.Thread.{Thread}
 use Rattle.guest_futex.specs.Waits.{times_waiting}
 use Rattle.guest_sys.specs.Kernel.{Kernel, times_live}
 use Rattle.guest_sys.specs.Laws.{times_in}
-use Rattle.guest_sched.specs.Engine.{Engine, first_of}
+use Rattle.guest_sched.specs.Engine.{Engine}
 use Rattle.guest_sched.specs.declared.engine.Engine.{Engine as EngineFields}
 
 abbrev pub engine_of : EngineFields → Engine
@@ -15,7 +15,7 @@ engine_of c = record { kernel = c.kernel; held = c.held; run_queue = c.run_queue
 -- the thread whose turn it is: none once the guest has exited
 abbrev pub on_turn : Option ℕ → List ThreadNo → Option ThreadNo
 on_turn (Some code) ready = None
-on_turn None ready = first_of ready
+on_turn None ready = slice_get ready 0
 
 -- the number of the thread at a place
 abbrev pub number_at : List Thread → ℕ → Option ℕ

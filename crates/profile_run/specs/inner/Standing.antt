@@ -1,7 +1,8 @@
 -- How a run stands after some steps.
 use Rattle.std.specs.Prelude.{◌≡◌, ◌≢◌, ℕ, ◌+◌, ◌-◌, ◌^◌, ◌<◌, ◌≤◌, ◌⊎◌, Bool, true, false, List, [], ◌∷◌, ◌++◌, length}
 use Rattle.std.specs.Prelude.{map, IfOk, Option, None, Some, option_map, Result, Ok, Err, flat_map, nat_lt}
-use Rattle.std.specs.Prelude.{if◌then◌else◌, All}
+use Rattle.std.specs.Prelude.{if◌then◌else◌, All, codes, slice_get, unwrap_or}
+use Rattle.std.specs.List.{join_by}
 use Rattle.outside.specs.Files.{Rose}
 use Rattle.outside.specs.Outside.{Named, Outside, Shelf, Stream, puts_of, shelf, with_files}
 use Rattle.outside.specs.Journal.{AreRefusedOf, AreWritten, Call as ToldCall, Put, TellsMore, TellsWrites, Wrote}
@@ -44,7 +45,7 @@ use Rattle.recorder.specs.Notes.{first_account}
 use Rattle.recorder.specs.Standing.{Stands, event_on_stack}
 use Rattle.recorder.specs.Rows.{rows_of}
 use Rattle.recorder.specs.inner.Known.{KnowsPlaces}
-use Rattle.profile_run.specs.Program.{Fits, Program, Options, head_of_run, joined_texts, first_text}
+use Rattle.profile_run.specs.Program.{Fits, Program, Options, head_of_run}
 use Rattle.profile_run.specs.Parts.{ArePartsOf, calls_of, calls_so_far, watched_parts}
 use Rattle.profile_run.specs.Runs.{Answers, AreUnput, RunEnd, IsFrontOf}
 use Rattle.profile_run.specs.Trace.{IsTraceOf, Stop, RunStep, bytes_to, end_before, next_step, piece_to}
@@ -96,7 +97,7 @@ HasStack syms x = (events : List Event) × (pc : ℕ) × (x.on_stack.stack ≡ r
 
 pub record IsAfter (guest : Program) (past : List RunStep) (since : List Step) (m : Machine) (coster : RunCosts)
     (r : Recording) : Type 0 where
-  pub run : Run (next_step guest) (start guest) past (m, past)
+  pub run : Run (next_step guest) (start guest) past (m.engine, past)
   pub reached : IsReached (guest_at_start guest.image guest.args guest.input) guest.options.quantum guest.options.seed
       (map machine_step_of past) m
   pub given : m.given ≡ None
@@ -154,7 +155,7 @@ pub record HasBegun {W : Type 0} (m : Meaning W) (guest : Program) (first : W) (
   pub known : knows r thread ≡ true
   pub ready : IsReady r thread
   pub stack : stack (account r thread).frames ≡ stack_at guest.syms (steps_of past) thread.0 pc
-  pub goes : end_before guest machine past ≡ None
+  pub goes : end_before guest machine.engine past ≡ None
   pub shallow : length (account r thread).frames ≤ most_frames
   pub room : books.live r < most_frames
   pub spare : length past < guest.options.budget
@@ -304,8 +305,8 @@ pub record IsHead (guest : Program) (head : PartHead) : Type 0 where
 -- what the first head of a run is made of
 pub record IsHeadOf (args : List (List ℕ)) (options : Options) (head : PartHead) : Type 0 where
   pub part : head.part ≡ 1
-  pub cmd : head.cmd ≡ joined_texts args
-  pub object : head.object ≡ first_text args
+  pub cmd : head.cmd ≡ join_by (λ text. text) (codes " ") args
+  pub object : head.object ≡ unwrap_or (slice_get args 0) []
   pub i1 : head.i1 ≡ options.shapes.i1
   pub d1 : head.d1 ≡ options.shapes.d1
   pub ll : head.ll ≡ options.shapes.ll
@@ -529,7 +530,7 @@ Fails m job fault now = Answers (watched_parts m job.first job.guest) job.guest 
 pub record IsOver {W : Type 0} (m : Meaning W) (guest : Program) (first : W) (past : List RunStep) (stop : Stop)
     (machine : Machine) (r : Recording) (h : PartHead) (w : W) : Type 0 where
   pub is : IsTraceOf guest past stop
-  pub threads : machine.engine.kernel.guest.made ≡ is.last.0.engine.kernel.guest.made
+  pub threads : machine.engine.kernel.guest.made ≡ is.last.0.kernel.guest.made
   pub steps : machine.engine.kernel.guest.steps ≡ length past
   pub accounts : AreAccounts guest.syms (steps_of past) (cuts guest.syms guest.options.dump_points (steps_of past)).recent r
   pub made : (thread : ℕ) → machine.engine.kernel.guest.made < thread → steps_of_thread thread (steps_of past) ≡ []

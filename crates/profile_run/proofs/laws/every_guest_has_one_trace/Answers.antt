@@ -1,13 +1,12 @@
 use Rattle.std.proofs.Common.{arith, [], refl}
 use Rattle.profile_run.proofs.Others.{IsTrace-same}
-use Rattle.profile_run.specs.Program.{first_machine}
 use Rattle.profile_run.specs.Trace.{next_step, start}
 use Rattle.profile_run.proofs.TraceLemmas.{goes_on}
 use Rattle.profile_run.proofs.laws.every_guest_has_one_trace.Goals as goal
 
 pub returns-clause-some : goal.returns-clause-some
 returns-clause-some c = λ guest.
-    let whole = goes_on guest [] (first_machine guest) refl (omega arith) in
+    let whole = goes_on guest [] (start guest).0 refl (omega arith) in
     record { trace = whole.rest; stop = whole.stop; is = whole.is }
 
 pub returns-clause-one : goal.returns-clause-one

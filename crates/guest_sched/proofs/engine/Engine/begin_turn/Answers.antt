@@ -1,9 +1,10 @@
 use Rattle.std.proofs.Common.{◌≡◌, Some, None, refl, sym, subst, ap, ◌∙◌}
+use Rattle.std.specs.List.{slice_get}
 use Rattle.std.specs.Option.{option_map}
 use Rattle.guest_sys.specs.Kernel.{Kernel}
 use Rattle.guest_sched.specs.declared.engine.Engine.{Engine as EngineFields}
 use Rattle.guest_sched.specs.declared.run_queue.Ready.{Ready}
-use Rattle.guest_sched.specs.Engine.{begins, first_of}
+use Rattle.guest_sched.specs.Engine.{begins}
 use Rattle.guest_sched.specs.inner.Sound.{IsLively, number_at}
 use Rattle.guest_sched.proofs.EngineLemmas.{placed_first, placed_none, sound_begun, sound_same, with_line}
 use Rattle.guest_sched.proofs.TurnLemmas.{lively_begins}
@@ -26,8 +27,8 @@ returns-in-Some-clause-sound c =
     ap (λ (e : EngineFields). e.run_queue) c.find_place.ensures.same ∙ ap (λ (e : EngineFields). e.run_queue) c.begin.ensures in
     let exit : c.find_place.new.self.exit ≡ old.exit =
     ap (λ (e : EngineFields). e.exit) c.find_place.ensures.same ∙ ap (λ (e : EngineFields). e.exit) c.begin.ensures in
-    let first : first_of line.ready ≡ Some c.in-Some.ready.thread =
-    ap (λ (e : EngineFields). first_of e.run_queue.ready) (sym c.begin.ensures) ∙ sym c.first.ensures
+    let first : slice_get line.ready 0 ≡ Some c.in-Some.ready.thread =
+    ap (λ (e : EngineFields). slice_get e.run_queue.ready 0) (sym c.begin.ensures) ∙ sym c.first.ensures
     ∙ ap (option_map (λ (r : Ready). r.thread)) c.in-Some.is in
     let there : number_at old.kernel.guest.threads place ≡ Some c.in-Some.ready.thread.0 =
     ap (λ (s : Kernel). number_at s.guest.threads place) (sym kernel) ∙ c.find_place.ensures.placed in
@@ -39,8 +40,8 @@ pub returns-in_default-clause-sound : goal.returns-in_default-clause-sound
 returns-in_default-clause-sound c =
     let old = c.args.self.now in
     let line = begins old.exit old.run_queue.ready old.run_queue in
-    let none : first_of line.ready ≡ None =
-    ap (λ (e : EngineFields). first_of e.run_queue.ready) (sym c.begin.ensures) ∙ sym c.first.ensures
+    let none : slice_get line.ready 0 ≡ None =
+    ap (λ (e : EngineFields). slice_get e.run_queue.ready 0) (sym c.begin.ensures) ∙ sym c.first.ensures
     ∙ ap (option_map (λ (r : Ready). r.thread)) c.in_default.is in
     sound_same (with_line old line old.place) c.begin.new.self
     (ap (λ (e : EngineFields). e.kernel) c.begin.ensures) (ap (λ (e : EngineFields). e.run_queue) c.begin.ensures)

@@ -2,7 +2,8 @@ use Rattle.std.proofs.Common.{◌≡◌, List, None, map, ap, ◌∙◌}
 use Rattle.guest_load.specs.Guest.{Guest}
 use Rattle.guest_load.specs.declared.thread.Thread.{Thread}
 use Rattle.guest_sched.specs.RunQueue.{with_threads}
-use Rattle.guest_sched.specs.Engine.{first_engine, next_turn, first_queue}
+use Rattle.guest_sched.specs.Engine.{first_engine, next_turn}
+use Rattle.guest_sched.proofs.TurnLemmas.{first_queue}
 use Rattle.guest_sched.proofs.engine.Engine.new.Goals as goal
 
 pub returns-clause-first : goal.returns-clause-first

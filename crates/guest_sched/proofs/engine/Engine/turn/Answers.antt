@@ -1,10 +1,11 @@
 use Rattle.std.proofs.Common.{◌≡◌, ◌++◌, Some, None, sym, subst, ap, ◌∙◌, arith}
+use Rattle.std.specs.List.{slice_get}
 use Rattle.std.specs.Option.{option_map, option_to_list}
 use Rattle.event_costs.specs.declared.numbers.ThreadNo.{ThreadNo}
 use Rattle.guest_sched.specs.declared.engine.Engine.{Engine as EngineFields}
 use Rattle.guest_sched.specs.declared.run_queue.Ready.{Ready}
 use Rattle.guest_sched.specs.RunQueue.{RunQueue, after_step}
-use Rattle.guest_sched.specs.Engine.{Engine, first_of, next_turn}
+use Rattle.guest_sched.specs.Engine.{Engine, next_turn}
 use Rattle.guest_sched.specs.inner.Sound.{IsLively, IsSound, number_at, engine_of}
 use Rattle.guest_sched.proofs.CallLemmas.{few_ready}
 use Rattle.guest_sched.proofs.EngineLemmas.{placed_first, sound_passed, turned_ends, turned_goes_on, with_line}
@@ -52,8 +53,8 @@ returns-in-Some-clause-sound c =
     let place = c.find_place.new.self.place in
     let same : c.find_place.new.self ≡ with_line old line place = c.find_place.ensures.same
     ∙ ap (λ (l : RunQueue). with_line old l place) c.pass_call.ensures.passed in
-    let first : first_of line.ready ≡ Some c.in-Some.thread =
-    ap (λ (l : RunQueue). first_of l.ready) (sym c.pass_call.ensures.passed) ∙ sym c.first.ensures
+    let first : slice_get line.ready 0 ≡ Some c.in-Some.thread =
+    ap (λ (l : RunQueue). slice_get l.ready 0) (sym c.pass_call.ensures.passed) ∙ sym c.first.ensures
     ∙ ap (option_map (λ (r : Ready). r.thread)) c.in-Some.is ∙ ap (λ (t : ThreadNo). Some t) c.in-Some.thread-is in
     let there : number_at old.kernel.guest.threads place ≡ Some c.in-Some.thread.0 =
     ap (λ (e : EngineFields). number_at e.kernel.guest.threads place) (sym same) ∙ c.find_place.ensures.placed
