@@ -17,7 +17,7 @@ use Rattle.annotate.specs.Files.{is_in_file}
 use Rattle.annotate.specs.Names.{costs_text}
 use Rattle.report_rows.specs.Lists.{each_event}
 use Rattle.report_rows.specs.Orders.{numbers}
-use Rattle.annotate.specs.Sources.{has_cost, is_other, line_cost, line_costs_text, lines_end, lines_text, other_line}
+use Rattle.annotate.specs.Sources.{has_cost, line_cost, line_costs_text, lines_end, lines_text}
 use Rattle.annotate.specs.Sources.{others_text, shown_byte, text_line}
 use Rattle.annotate.specs.Sources as src
 use Rattle.report_rows.specs.Entries.{AreAtPlaces, AreWithin, EntryValue, Places, cost_of, costs_of, if_any, is_at, entry_values}
@@ -168,13 +168,15 @@ module _ (p : Contents) (profile : IsProfile p) (name : List ℕ) where
     other_is : (count m : ℕ)
         → cond (list_any (is_at m) ks) (cond (is_outside count m)
         (other_with (length p.events) m (filter (is_at m) ks)) []) []
-        ≡ cond (is_other p name count m) (other_line p name m) []
+        ≡ cond (has_cost p name m && not (nat_le 1 m && nat_le m count))
+        (line_costs_text p name m ++ codes " | <line " ++ decimal m ++ codes ">\n") []
     other_is count m =
         let text = other_with (length p.events) m (filter (is_at m) ks) in
         ap (λ b. cond b (cond (is_outside count m) text []) []) (any_there m)
         ∙ text_and (has_cost p name m) (is_outside count m) text
         ∙ ap (λ b. cond (has_cost p name m && b) text []) (outside_is count m)
-        ∙ ap (λ cs. cond (is_other p name count m) (costs_text cs ++ codes " | <line " ++ decimal m ++ codes ">\n") [])
+        ∙ ap (λ cs. cond (has_cost p name m && not (nat_le 1 m && nat_le m count))
+        (costs_text cs ++ codes " | <line " ++ decimal m ++ codes ">\n") [])
         (costs_there m)
 
     -- the lines that it doesn't have
@@ -184,11 +186,13 @@ module _ (p : Contents) (profile : IsProfile p) (name : List ℕ) where
         ≡ others_text p name count
     others_there count =
         let g : ℕ → List EntryValue → List ℕ = λ m xs. cond (is_outside count m) (other_with (length p.events) m xs) [] in
+        let is_other : ℕ → Bool = λ m. has_cost p name m && not (nat_le 1 m && nat_le m count) in
+        let line : ℕ → List ℕ = λ m. line_costs_text p name m ++ codes " | <line " ++ decimal m ++ codes ">\n" in
         flat_map_filter (λ (e : ℕ × Vec Entry Global). other_with (length p.events) e.0 (entry_values e.1.items))
         (λ (e : ℕ × Vec Entry Global). is_outside count e.0) places.entries
         ∙ place_texts ks places stands (lines_end p) at_below g
         ∙ flat_map_filter (λ m. g m (filter (is_at m) ks)) (λ m. list_any (is_at m) ks) (numbers (lines_end p))
         ∙ flat_map_agree (λ m. cond (list_any (is_at m) ks) (g m (filter (is_at m) ks)) [])
-        (λ m. cond (is_other p name count m) (other_line p name m) []) (numbers (lines_end p))
+        (λ m. cond (is_other m) (line m) []) (numbers (lines_end p))
         (λ k d lt. other_is count (get_or (numbers (lines_end p)) k d))
-        ∙ sym (flat_map_filter (other_line p name) (is_other p name count) (numbers (lines_end p)))
+        ∙ sym (flat_map_filter line is_other (numbers (lines_end p)))

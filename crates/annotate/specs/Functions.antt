@@ -1,7 +1,8 @@
 -- What a report says of all functions together, and of each group of functions.
 use Rattle.std.specs.Prelude.{ℕ, ◌+◌, Bool, ◌==◌, nat_lt, List, [], ◌∷◌, ◌++◌, length, take, flat_map, slice_index}
-use Rattle.std.specs.Prelude.{slice_index_or, codes, decimal, count_by, Option, None, Some}
+use Rattle.std.specs.Prelude.{slice_index_or, codes, decimal, count_by}
 use Rattle.std.specs.List.{join_by}
+use Rattle.std.specs.Option.{option_map_or}
 use Rattle.call_graph.specs.Groups.{Grouping, is_member}
 use Rattle.byte_text.specs.Names.{clean_name, unknown}
 use Rattle.cg_read.specs.Profiles.{Contents, function_at}
@@ -14,26 +15,15 @@ use Rattle.report_rows.specs.declared.options.ReportOptions.{ReportOptions}
 
 -- The heading
 
-abbrev pub command_text : Option (List ℕ) → List ℕ
-command_text None = unknown
-command_text (Some command) = clean_name command
-
 abbrev pub command_line : Contents → List ℕ
-command_line p = codes "command: " ++ command_text p.command ++ codes "\n"
-
-abbrev pub events_line : Contents → List ℕ
-events_line p = codes "events: " ++ join_by (λ name. name) (codes " ") p.events ++ codes "\n"
-
-abbrev pub totals_line : Contents → List ℕ
-totals_line p = codes "totals: " ++ costs_text (each_event p (total p)) ++ codes "\n"
-
-abbrev pub sort_line : Contents → ReportOptions → List ℕ
-sort_line p options =
-    codes "sort: " ++ slice_index_or p.events options.sort [] ++ codes " threshold: " ++ decimal options.threshold
-    ++ codes "\n"
+command_line p = codes "command: " ++ option_map_or clean_name p.command unknown ++ codes "\n"
 
 abbrev pub heading : Contents → ReportOptions → List ℕ
-heading p options = command_line p ++ events_line p ++ totals_line p ++ sort_line p options
+heading p options =
+    command_line p ++ (codes "events: " ++ join_by (λ name. name) (codes " ") p.events ++ codes "\n")
+    ++ (codes "totals: " ++ costs_text (each_event p (total p)) ++ codes "\n")
+    ++ (codes "sort: " ++ slice_index_or p.events options.sort [] ++ codes " threshold: " ++ decimal options.threshold
+    ++ codes "\n")
 
 -- Groups
 
@@ -49,14 +39,11 @@ function_text p f = name_text (function_at p.functions f)
 abbrev pub self_and_name : Contents → ℕ → List ℕ
 self_and_name p f = self_text p (λ g. g == f) ++ codes " | " ++ function_text p f ++ codes "\n"
 
--- a function of a cycle
-abbrev pub member_line : Contents → ℕ → List ℕ
-member_line p f = codes "  - | " ++ self_and_name p f
-
 -- what was counted in a cycle, its number and its functions
 abbrev pub cycle_text : Contents → (ℕ → Bool) → ℕ → List ℕ → List ℕ
 cycle_text p member number functions =
-    self_text p member ++ codes " | <cycle " ++ decimal number ++ codes ">\n" ++ flat_map (member_line p) functions
+    self_text p member ++ codes " | <cycle " ++ decimal number ++ codes ">\n"
+    ++ flat_map (λ f. codes "  - | " ++ self_and_name p f) functions
 
 -- a group behind its cost: a function, or the cycle with this number
 abbrev pub group_rest : Contents → (ℕ → Bool) → ℕ → List ℕ → List ℕ

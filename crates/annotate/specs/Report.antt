@@ -15,14 +15,12 @@ use Rattle.annotate.specs.declared.source.Source.{Source}
 abbrev pub SourceTexts : Type 0
 SourceTexts = List (List ℕ × Source)
 
-abbrev pub sources_text : Contents → Bool → SourceTexts → List ℕ
-sources_text p asked texts = if asked then flat_map (λ t. source_text p t.0 t.1) texts else []
-
 -- the text, where the functions stand in this order and these are the groups that are shown
 abbrev pub text_with : Contents → Grouping → List (List ℕ) → ReportOptions → SourceTexts → List ℕ → List ℕ → List ℕ
 text_with p groups costs options texts functions shown =
     heading p options ++ functions_text p groups costs functions shown
-    ++ calls_text p groups functions shown options.tree ++ sources_text p options.auto texts
+    ++ calls_text p groups functions shown options.tree
+    ++ (if options.auto then flat_map (λ t. source_text p t.0 t.1) texts else [])
 
 -- The report on a profile with these groups, where this is the cost of each group, by its number.
 pub record IsReport (p : Contents) (groups : Grouping) (costs : List (List ℕ)) (options : ReportOptions)

@@ -53,15 +53,7 @@ text_line p name line text =
 
 -- the text's lines, which are numbered from 1
 abbrev pub lines_text : Contents → List ℕ → List (List ℕ) → List ℕ
-lines_text p name lines =
-    flat_map (λ i. text_line p name (i + 1) (slice_index_or lines i [])) (numbers (length lines))
-
--- a line that the text doesn't have
-abbrev pub other_line : Contents → List ℕ → ℕ → List ℕ
-other_line p name line = line_costs_text p name line ++ codes " | <line " ++ decimal line ++ codes ">\n"
-
-abbrev pub is_other : Contents → List ℕ → ℕ → ℕ → Bool
-is_other p name count line = has_cost p name line && not (nat_le 1 line && nat_le line count)
+lines_text p name lines = flat_map (λ i. text_line p name (i + 1) (slice_index_or lines i [])) (numbers (length lines))
 
 -- above the numbers of all lines
 abbrev pub lines_end : Contents → ℕ
@@ -69,16 +61,16 @@ lines_end p = fold (λ end row. max end (row.line + 1)) 0 p.self_rows
 
 -- the lines that a text of so many lines doesn't have, rising
 abbrev pub others_text : Contents → List ℕ → ℕ → List ℕ
-others_text p name count = flat_map (other_line p name) (filter (is_other p name count) (numbers (lines_end p)))
+others_text p name count =
+    flat_map (λ line. line_costs_text p name line ++ codes " | <line " ++ decimal line ++ codes ">\n")
+    (filter (λ line. has_cost p name line && not (nat_le 1 line && nat_le line count)) (numbers (lines_end p)))
 
 -- Files
-
-abbrev pub found_text : Contents → List ℕ → List (List ℕ) → List ℕ
-found_text p name lines = lines_text p name lines ++ others_text p name (length lines)
 
 -- a file, and what is known of its text
 abbrev pub source_text : Contents → List ℕ → Source → List ℕ
 source_text p name (Found text) =
-    codes "\n-- source " ++ clean_name name ++ codes "\n" ++ found_text p name (text_lines text)
+    codes "\n-- source " ++ clean_name name ++ codes "\n"
+    ++ (lines_text p name (text_lines text) ++ others_text p name (length (text_lines text)))
 source_text p name Missing = codes "\n-- no source " ++ clean_name name ++ codes "\n"
 source_text p name (TooLong len) = codes "\n-- source too long " ++ clean_name name ++ codes "\n"

@@ -2,7 +2,7 @@
 
 ghost use Rattle.std.specs.Prelude.{◌≡◌, ◌++◌, ◌<◌, ℕ, All, OnOk, codes, flat_map, length};
 ghost use Rattle.call_graph.specs.Groups.{is_member};
-ghost use Rattle.annotate.specs.Functions.{cycle_text, function_text, functions_text, group_rest, group_text, member_line};
+ghost use Rattle.annotate.specs.Functions.{cycle_text, function_text, functions_text, group_rest, group_text};
 ghost use Rattle.annotate.specs.Functions.{self_and_name};
 ghost use Rattle.report_rows.specs.Orders.{members};
 ghost use Rattle.annotate.specs.inner.Layout.{AreFunctions, IsView};
@@ -38,7 +38,8 @@ impl View<'_> {
     fn put_members(&self, text: &mut Text, members: &[usize]) -> Result<(), OutOfMemory>
         requires view { IsView self.now }
         requires functions { AreFunctions self.now.profile.now members.now }
-        ensures { OnOk result (text.new ≡ text.old ++ flat_map (member_line self.now.profile.now) members.now) }
+        ensures { OnOk result (text.new ≡ text.old
+            ++ flat_map (λ f. codes "  - | " ++ self_and_name self.now.profile.now f) members.now) }
     {
         'members: for function in members {
             text.push(b"  - | ")?;

@@ -2,8 +2,10 @@
 
 ghost use Rattle.std.specs.Prelude.{◌≡◌, ◌++◌, ◌<◌, OnOk, codes, decimal, length};
 ghost use Rattle.std.specs.List.{join_by};
+ghost use Rattle.std.specs.Option.{option_map_or};
+ghost use Rattle.byte_text.specs.Names.{clean_name, unknown};
 ghost use Rattle.cg_read.specs.Totals.{total};
-ghost use Rattle.annotate.specs.Functions.{command_text, heading};
+ghost use Rattle.annotate.specs.Functions.{heading};
 ghost use Rattle.annotate.specs.Names.{costs_text};
 ghost use Rattle.report_rows.specs.Lists.{each_event};
 
@@ -15,7 +17,8 @@ use std::alloc::Global;
 
 /// Writes the command, as far as it is known.
 fn put_command(alloc: Global, text: &mut Text, command: &Option<Text>) -> Result<(), OutOfMemory>
-    ensures { OnOk result (text.new ≡ text.old ++ (codes "command: " ++ command_text command.now ++ codes "\n")) }
+    ensures { OnOk result (text.new ≡ text.old
+        ++ (codes "command: " ++ option_map_or clean_name command.now unknown ++ codes "\n")) }
 {
     text.push(b"command: ")?;
     match command {

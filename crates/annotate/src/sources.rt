@@ -7,7 +7,7 @@ ghost use Rattle.byte_text.specs.Names.{clean_name};
 ghost use Rattle.cg_read.specs.Profiles.{IsProfile};
 ghost use Rattle.cycles.specs.Limits.{AreAllWithin};
 ghost use Rattle.report_rows.specs.Orders.{numbers};
-ghost use Rattle.annotate.specs.Sources.{found_text, shown_byte, source_text, text_lines};
+ghost use Rattle.annotate.specs.Sources.{lines_text, others_text, shown_byte, source_text, text_lines};
 ghost use Rattle.report_rows.specs.Entries.{AreWithin, entry_values, values_at};
 ghost use Rattle.report_rows.specs.Lists.{AreFileLists};
 ghost use Rattle.annotate.specs.inner.SourceRows.{AreNumbersOf, AreRowsOfFile, costs_or_dot, is_outside, other_with};
@@ -140,7 +140,8 @@ fn put_found(
 ) -> Result<(), OutOfMemory>
     requires within { AreAllWithin profile.now }
     requires rows { AreRowsOfFile profile.now _name.now (entry_values rows.now) }
-    ensures { OnOk result (text.new ≡ text.old ++ found_text profile.now _name.now (text_lines source.now)) }
+    ensures { OnOk result (text.new ≡ text.old ++ (lines_text profile.now _name.now (text_lines source.now)
+        ++ others_text profile.now _name.now (length (text_lines source.now)))) }
 {
     let events = profile.events.len();
     let rows = by_place(alloc, rows)?;

@@ -49,13 +49,9 @@ summary_lines head sum =
     ∷ (codes "summary:" ++ cost_text (events_shown head.branch sum))
     ∷ []
 
--- what a position is, and these lines
-abbrev pub event_lines : PartHead → List ℕ → List (List ℕ)
-event_lines head sum = codes "positions: line" ∷ summary_lines head sum
-
 -- the lines before the first function, where the line rows have this sum
 abbrev pub heading : PartHead → List ℕ → List (List ℕ)
-heading head sum = identity_lines head ++ description_lines head ++ event_lines head sum
+heading head sum = identity_lines head ++ description_lines head ++ codes "positions: line" ∷ summary_lines head sum
 
 -- the object, the program's name
 abbrev pub object_line : PartHead → List ℕ

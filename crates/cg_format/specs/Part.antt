@@ -1,6 +1,7 @@
 -- The text of a part. What is written before a row is found by looking back at the lines written so far.
 use Rattle.std.specs.Prelude.{ℕ, Bool, false, ◌==◌, if◌then◌else◌, List, [], ◌∷◌, fold, length, map, reverse, Option}
 use Rattle.std.specs.Prelude.{None, Some, All}
+use Rattle.std.specs.Option.{option_map_or}
 use Rattle.arc_costs.specs.Contents.{Listed}
 use Rattle.arc_costs.specs.Rows.{ArcRow, LineRow}
 use Rattle.event_costs.specs.Costs.{events_shown}
@@ -20,9 +21,8 @@ use Rattle.cg_format.specs.declared.row.Row.TheVariants.{Line, Arc}
 -- the file of the last line that names one, which is no callee's
 abbrev pub current_file : List Mark → Option FileId
 current_file [] = None
-current_file (File Home file ∷ before) = Some file
-current_file (File Other file ∷ before) = Some file
-current_file (File Back file ∷ before) = Some file
+current_file (File OfCallee file ∷ before) = current_file before
+current_file (File _ file ∷ before) = Some file
 current_file (_ ∷ before) = current_file before
 
 -- the function of the last function line
@@ -32,12 +32,10 @@ current_function (Function function ∷ before) = Some function
 current_function (_ ∷ before) = current_function before
 
 abbrev pub is_file : Option FileId → FileId → Bool
-is_file None file = false
-is_file (Some current) file = current.0 == file.0
+is_file current file = option_map_or (λ known. known.0 == file.0) current false
 
 abbrev pub is_function : Option FuncId → FuncId → Bool
-is_function None function = false
-is_function (Some current) function = current.0 == function.0
+is_function current function = option_map_or (λ known. known.0 == function.0) current false
 
 -- a line with a file, where it isn't the current one
 abbrev pub in_file : FileKey → FileId → List Mark → List Mark

@@ -1,10 +1,10 @@
 //! The lines that a part begins with.
 
-ghost use Rattle.std.specs.Prelude.{◌≡◌, ◌++◌, ◌∷◌, [], List, IfOk, OnOk, map, reverse};
+ghost use Rattle.std.specs.Prelude.{◌≡◌, ◌++◌, ◌∷◌, [], List, IfOk, OnOk, codes, map, reverse};
 ghost use Rattle.event_costs.specs.Costs.{IsWhole};
 ghost use Rattle.byte_text.specs.Names.{clean_name};
 ghost use Rattle.sym_map.specs.SymbolMap.{SymbolMap};
-ghost use Rattle.cg_format.specs.Heading.{cache_text, description_lines, event_lines, heading};
+ghost use Rattle.cg_format.specs.Heading.{cache_text, description_lines, heading};
 ghost use Rattle.cg_format.specs.Heading.{identity_lines, summary_lines, totals, trigger_text};
 ghost use Rattle.cg_format.specs.Marks.{Mark, Plain};
 ghost use Rattle.cg_format.specs.Standing.{WriterState};
@@ -106,7 +106,8 @@ pub fn put_summary(writer: &mut Writer, head: &PartHead, sum: &[u128]) -> Result
 fn put_events(writer: &mut Writer, head: &PartHead, sum: &[u128]) -> Result<(), OutOfMemory>
     requires { IsWhole sum.now }
     ensures { (m : SymbolMap) (before : List Mark) → WriterState m before writer.old
-        → OnOk result (WriterState m (reverse (map Plain (event_lines head.now sum.now)) ++ before) writer.new) }
+        → OnOk result (WriterState m
+        (reverse (map Plain (codes "positions: line" ∷ summary_lines head.now sum.now)) ++ before) writer.new) }
 {
     writer.put_line(b"positions: line", b"")?;
     put_summary(writer, head, sum)

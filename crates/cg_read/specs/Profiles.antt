@@ -46,20 +46,14 @@ pub record FitsCall (events functions files : ℕ) (row : CallRow) : Type 0 wher
   pub file : row.file < files
   pub cost : length row.cost ≡ events
 
-abbrev pub AllFitSelf : Contents → Type 0
-AllFitSelf p = All (FitsSelf (length p.events) (length p.functions) (length p.files)) p.self_rows
-
-abbrev pub AllFitCall : Contents → Type 0
-AllFitCall p = All (FitsCall (length p.events) (length p.functions) (length p.files)) p.call_rows
-
 -- what holds of every profile
 pub record IsProfile (p : Contents) : Type 0 where
   pub event_limit : length p.events ≤ most_events
   pub events_differ : AreApart p.events
   pub functions_differ : AreApart p.functions
   pub files_differ : AreApart p.files
-  pub self_rows_fit : AllFitSelf p
-  pub call_rows_fit : AllFitCall p
+  pub self_rows_fit : All (FitsSelf (length p.events) (length p.functions) (length p.files)) p.self_rows
+  pub call_rows_fit : All (FitsCall (length p.events) (length p.functions) (length p.files)) p.call_rows
 
 -- Rows with the texts that their numbers stand for
 
@@ -89,13 +83,12 @@ pub record NamedCall : Type 0 where
   pub cost : List ℕ
 
 abbrev pub named_self : List FuncKey → List (List ℕ) → SelfRow → NamedSelf
-named_self functions files row =
-    record {
-      function = function_at functions row.func;
-      file = file_at files row.file;
-      line = row.line;
-      cost = row.cost;
-    }
+named_self functions files row = record {
+  function = function_at functions row.func;
+  file = file_at files row.file;
+  line = row.line;
+  cost = row.cost;
+}
 
 abbrev pub named_call : List FuncKey → List (List ℕ) → CallRow → NamedCall
 named_call functions files row = record {

@@ -32,10 +32,6 @@ input_fault (Some name) found = load_fault name found
 abbrev pub HasStatus : Option Status → Status → Type 0
 HasStatus stops status = (status ≡ (OutOfMemory memory)) ⊎ (stops ≡ Some status)
 
--- the most bytes that the input of a guest may have
-abbrev pub input_limit : ℕ
-input_limit = text_limit
-
 -- what was loaded, in words that don't speak of its memory
 abbrev pub bytes_loaded : Result (Vec ℕ Global) Status → Result (List ℕ) Status
 bytes_loaded (Ok bytes) = Ok bytes.items
@@ -49,6 +45,6 @@ LoadsFile files name limit before now (Err status) =
 
 -- the input is loaded
 abbrev pub LoadsInput : Option Files → Option (List ℕ) → ℕ → ℕ → Result (Vec ℕ Global) Status → Type 0
-LoadsInput files name before now (Ok bytes) = IsLoadIf files name input_limit before now (Ok bytes.items)
+LoadsInput files name before now (Ok bytes) = IsLoadIf files name text_limit before now (Ok bytes.items)
 LoadsInput files name before now (Err status) =
-    (found : Load) × IsLoadIf files name input_limit before now found × HasStatus (input_fault name found) status
+    (found : Load) × IsLoadIf files name text_limit before now found × HasStatus (input_fault name found) status

@@ -18,7 +18,8 @@ use Rattle.command_status.specs.declared.status.Status.{Status}
 use Rattle.command_status.specs.declared.status.Status.TheVariants.{OutOfMemory, Done}
 use Rattle.command_words.specs.Request.{View}
 use Rattle.command_steps.specs.Annotate.{MakesReport, SettlesOptions, read_status, write_fault, profile_limit}
-use Rattle.command_steps.specs.Loading.{HasStatus, input_limit, load_fault}
+use Rattle.outside.specs.Limits.{text_limit}
+use Rattle.command_steps.specs.Loading.{HasStatus, load_fault}
 use Rattle.byte_text.specs.Memory.{memory}
 use Rattle.profile_files.specs.Joined.{no_rows}
 
@@ -72,7 +73,7 @@ Loads name limit log (Err status) =
 -- where one is named; else it is empty
 abbrev pub LoadsIf : Option (List ℕ) → Log → Result (List ℕ) Status → Type 0
 LoadsIf None = Gives []
-LoadsIf (Some name) = Loads name input_limit
+LoadsIf (Some name) = Loads name text_limit
 
 -- ---- a report
 

@@ -2,7 +2,7 @@
 use Rattle.std.proofs.Common.{◌≡◌, ◌&&◌, ◌^◌, ◌<◌, ◌≤◌, ℕ, zero, suc, Bool, true, false, true≢false, cond, nat_le}
 use Rattle.std.proofs.Common.{nat_lt, List, [], ◌∷◌, length, get_or, refl, sym, ap, subst, arith, Option, Some, None}
 use Rattle.std.proofs.Common.{IfSome, map, codes, lit<, lit≤, unwrap_or}
-use Rattle.std.specs.Prelude.{option_and_then}
+use Rattle.std.specs.Prelude.{if◌then◌else◌, option_and_then}
 use Rattle.std.specs.List.{list_all}
 use Rattle.std.specs.Option.{option_map_or}
 use Rattle.std.specs.Prelude.{Contains}
@@ -13,8 +13,8 @@ use Rattle.std.proofs.lemmas.Bool.{and_parts, leb-true, lt-ltb, ltb-true}
 use Rattle.sorted_words.specs.Sorting.{SortedCommand, Syntax, Text, is_among, sorting, uses}
 use Rattle.sorted_words.proofs.RowLemmas.{same_text}
 use Rattle.command_words.specs.Request.{Request, Usage, Uses, are_fine, read_request, request_of, command_named, demo, first}
-use Rattle.command_words.specs.Request.{has_its_values, is_fine, is_named, job, request, command_request, sized_demo}
-use Rattle.command_words.specs.Request.{Addresses, Waits, by_callers, counts_one, first_small_number}
+use Rattle.command_words.specs.Request.{has_its_values, is_fine, job, request, command_request}
+use Rattle.command_words.specs.Request.{Addresses, Contexts, Nothing, Waits, counts_one}
 use Rattle.command_words.specs.Request.{says, sort_is_shown, view, watching}
 use Rattle.command_words.specs.Request.{Demo as Asked_Demo}
 use Rattle.command_words.specs.Table.{Command, AnyText, Number, Row, Run, RunAndReport, Report, Annotate, Demo, Sized}
@@ -24,7 +24,7 @@ use Rattle.command_words.specs.Within.{AreFew, IsBetween, IsJob, IsSortShown, Is
 
 -- ---- numbers
 
-between : (least most n : ℕ) → is_between least most (Some n) ≡ true → IsBetween least most n
+between : (least most n : ℕ) → is_between least most n ≡ true → IsBetween least most n
 between least most n e =
     let parts = and_parts (nat_le least n) (nat_le n most) e in
     record { least_of = leb-true least n parts.0; most_of = leb-true n most parts.1 }
@@ -44,11 +44,11 @@ same_number limit n text e lt = go (is_numeral text && nat_lt (value_of text) (2
         let small : nat_lt (value_of text) limit ≡ true = lt-ltb (value_of text) limit (rw same lt) in
         rw (numeral, small) (ap (λ (v : ℕ). Some v) same)
 
-number_of_text : (least most : ℕ) (text : Text) → is_between least most (number text) ≡ true
+number_of_text : (least most : ℕ) (text : Text) → option_map_or (is_between least most) (number text) false ≡ true
     → (n : ℕ) × (number text ≡ Some n) × IsBetween least most n
 number_of_text least most text passes = go (number text) refl passes
   where
-    go : (o : Option ℕ) → number text ≡ o → is_between least most o ≡ true
+    go : (o : Option ℕ) → number text ≡ o → option_map_or (is_between least most) o false ≡ true
         → (n : ℕ) × (number text ≡ Some n) × IsBetween least most n
     go None e p = absurd (true≢false (sym p))
     go (Some n) e p = (n, e, between least most n p)
@@ -118,7 +118,7 @@ job_within : (given : Uses) (values : List Text)
     → list_all (accepts (Number 1 (10 ^ 12))) (given (codes "budget")) ≡ true
     → list_all (accepts (Number 1 1000000)) (given (codes "quantum")) ≡ true
     → list_all (accepts (Number 1 (10 ^ 12))) (given (codes "dump-every")) ≡ true
-    → is_named values ≡ true → IsJob (job given values)
+    → nat_lt 0 (length values) ≡ true → IsJob (job given values)
 job_within given values base input budget quantum every named = record {
   base = text_within 1 200 (codes "callgrind.out") (given (codes "base")) base
       (record { least_of = lit≤ tt; most_of = lit≤ tt });
@@ -131,7 +131,7 @@ job_within given values base input budget quantum every named = record {
   program = ltb-true 0 (length values) named;
 }
 
-callers_of : (callers : Option ℕ) → IfSome callers (λ n. IsBetween 1 16 n) → AreFew (by_callers callers)
+callers_of : (callers : Option ℕ) → IfSome callers (λ n. IsBetween 1 16 n) → AreFew (option_map_or Contexts callers Nothing)
 callers_of None is = tt
 callers_of (Some n) is = is
 
@@ -141,11 +141,11 @@ callers_within given fine =
     by (says (codes "yes") (given (codes "waits"))) (says (codes "yes") (given (codes "dump-instr")))
   where
     by : (b c : Bool) → AreFew (cond b Waits
-        (cond c Addresses (by_callers (first_small_number (given (codes "separate-callers"))))))
+        (cond c Addresses (option_map_or Contexts (option_and_then small_number (first (given (codes "separate-callers")))) Nothing)))
     by true c = tt
     by false true = tt
     by false false =
-        callers_of (first_small_number (given (codes "separate-callers")))
+        callers_of (option_and_then small_number (first (given (codes "separate-callers"))))
         (number_if 1 16 (2 ^ 32) (given (codes "separate-callers")) fine (lit< tt))
 
 view_within : (given : Uses) → list_all (accepts (Number 0 100)) (given (codes "threshold")) ≡ true
@@ -170,11 +170,11 @@ demo_within : (values : List Text) → IsWithin (demo values)
 demo_within [] = tt
 demo_within (size ∷ []) = go (small_number size)
   where
-    go : (o : Option ℕ) → IsWithin (sized_demo o)
+    go : (o : Option ℕ) → IsWithin (option_map_or (λ n. if is_between 1 100000 n then Asked_Demo n else Usage) o Usage)
     go None = tt
-    go (Some n) = inner (is_between 1 100000 (Some n)) refl
+    go (Some n) = inner (is_between 1 100000 n) refl
       where
-        inner : (b : Bool) → is_between 1 100000 (Some n) ≡ b → IsWithin (cond b (Asked_Demo n) Usage)
+        inner : (b : Bool) → is_between 1 100000 n ≡ b → IsWithin (cond b (Asked_Demo n) Usage)
         inner false e = tt
         inner true e = between 1 100000 n e
 demo_within (size ∷ other ∷ values) = tt
@@ -188,7 +188,7 @@ requested_within Run given values fine has = (
       (row_is_fine given (rows_of Run) 2 any_row (lit< tt) fine)
       (row_is_fine given (rows_of Run) 3 any_row (lit< tt) fine)
       (row_is_fine given (rows_of Run) 8 any_row (lit< tt) fine)
-      (and_parts (is_named values) (counts_one given) has).0,
+      (and_parts (nat_lt 0 (length values)) (counts_one given) has).0,
   callers_within given (row_is_fine given (rows_of Run) 13 any_row (lit< tt) fine),
 )
 requested_within Report given values fine has = (
@@ -197,9 +197,9 @@ requested_within Report given values fine has = (
       (row_is_fine given (rows_of Report) 2 any_row (lit< tt) fine)
       (row_is_fine given (rows_of Report) 3 any_row (lit< tt) fine)
       (row_is_fine given (rows_of Report) 8 any_row (lit< tt) fine)
-      (and_parts (is_named values) (sort_is_shown given) has).0,
+      (and_parts (nat_lt 0 (length values)) (sort_is_shown given) has).0,
   view_within given (row_is_fine given (rows_of Report) 13 any_row (lit< tt) fine),
-  sort_within given values (and_parts (is_named values) (sort_is_shown given) has).1,
+  sort_within given values (and_parts (nat_lt 0 (length values)) (sort_is_shown given) has).1,
 )
 requested_within Annotate given values fine has =
     (ltb-true 0 (length values) has, view_within given (row_is_fine given (rows_of Annotate) 1 any_row (lit< tt) fine))

@@ -95,15 +95,6 @@ Uses = Text → List Text
 abbrev pub first : List Text → Option Text
 first texts = slice_get texts 0
 
-abbrev pub first_number : List Text → Option ℕ
-first_number texts = option_and_then number (first texts)
-
-abbrev pub first_small_number : List Text → Option ℕ
-first_small_number texts = option_and_then small_number (first texts)
-
-abbrev pub first_shape : List Text → Option Shape
-first_shape texts = option_and_then shape_of (first texts)
-
 abbrev pub says : Text → List Text → Bool
 says word texts = option_map_or (λ text. bytes_eq text word) (first texts) false
 
@@ -115,16 +106,12 @@ default_first = record { size = 32768; assoc = 8; line = 64 }
 abbrev pub default_last : Shape
 default_last = record { size = 8388608; assoc = 16; line = 64 }
 
-abbrev pub by_callers : Option ℕ → Watching
-by_callers None = Nothing
-by_callers (Some callers) = Contexts callers
-
 -- what `run` counts besides its parts
 abbrev pub watching : Uses → Watching
 watching given =
     if says (codes "yes") (given (codes "waits")) then Waits
     else (if says (codes "yes") (given (codes "dump-instr")) then Addresses
-    else by_callers (first_small_number (given (codes "separate-callers"))))
+    else option_map_or Contexts (option_and_then small_number (first (given (codes "separate-callers")))) Nothing)
 
 -- the positions of the parts of `report`
 abbrev pub positions : Uses → Positions
@@ -135,13 +122,13 @@ abbrev pub job : Uses → List Text → Job
 job given values = record {
   base = unwrap_or (first (given (codes "base"))) (codes "callgrind.out");
   input = first (given (codes "input"));
-  budget = unwrap_or (first_number (given (codes "budget"))) (10 ^ 9);
-  quantum = unwrap_or (first_small_number (given (codes "quantum"))) 10000;
-  seed = first_number (given (codes "turns"));
-  i1 = unwrap_or (first_shape (given (codes "I1"))) default_first;
-  d1 = unwrap_or (first_shape (given (codes "D1"))) default_first;
-  ll = unwrap_or (first_shape (given (codes "LL"))) default_last;
-  every = first_number (given (codes "dump-every"));
+  budget = unwrap_or (option_and_then number (first (given (codes "budget")))) (10 ^ 9);
+  quantum = unwrap_or (option_and_then small_number (first (given (codes "quantum")))) 10000;
+  seed = option_and_then number (first (given (codes "turns")));
+  i1 = unwrap_or (option_and_then shape_of (first (given (codes "I1")))) default_first;
+  d1 = unwrap_or (option_and_then shape_of (first (given (codes "D1")))) default_first;
+  ll = unwrap_or (option_and_then shape_of (first (given (codes "LL")))) default_last;
+  every = option_and_then number (first (given (codes "dump-every")));
   before = first (given (codes "dump-before"));
   after = first (given (codes "dump-after"));
   branches = says (codes "yes") (given (codes "branch-sim"));
@@ -156,7 +143,7 @@ tree_of texts =
 abbrev pub view : Uses → View
 view given = record {
   sort = first (given (codes "sort"));
-  threshold = unwrap_or (first_small_number (given (codes "threshold"))) 0;
+  threshold = unwrap_or (option_and_then small_number (first (given (codes "threshold")))) 0;
   tree = tree_of (given (codes "tree"));
   auto = says (codes "yes") (given (codes "auto"));
 }
@@ -176,10 +163,6 @@ sort_is_shown given =
     option_map_or (is_among (events_shown (says (codes "yes") (given (codes "branch-sim"))) event_names))
     (first (given (codes "sort"))) true
 
--- PROG or a file is named
-abbrev pub is_named : List Text → Bool
-is_named values = nat_lt 0 (length values)
-
 -- a run counts at most one thing besides its parts
 abbrev pub at_most_one : Bool → Bool → Bool → Bool
 at_most_one first second third = if first then not (second || third) else not (second && third)
@@ -189,21 +172,18 @@ counts_one given =
     at_most_one (says (codes "yes") (given (codes "waits"))) (says (codes "yes") (given (codes "dump-instr")))
     (is_some (first (given (codes "separate-callers"))))
 
+-- PROG or a file is named, where the command needs that
 abbrev pub has_its_values : Command → Uses → List Text → Bool
-has_its_values table.Run given values = is_named values && counts_one given
-has_its_values table.Report given values = is_named values && sort_is_shown given
-has_its_values table.Annotate given values = is_named values
+has_its_values table.Run given values = nat_lt 0 (length values) && counts_one given
+has_its_values table.Report given values = nat_lt 0 (length values) && sort_is_shown given
+has_its_values table.Annotate given values = nat_lt 0 (length values)
 has_its_values table.Demo given values = true
 
 -- ---- what is asked for
 
-abbrev pub sized_demo : Option ℕ → Request
-sized_demo None = Usage
-sized_demo (Some n) = if is_between 1 100000 (Some n) then Demo n else Usage
-
 -- how large a demonstration is to be: one number from 1 to 100,000
 abbrev pub demo : List Text → Request
-demo (size ∷ []) = sized_demo (small_number size)
+demo (size ∷ []) = option_map_or (λ n. if is_between 1 100000 n then Demo n else Usage) (small_number size) Usage
 demo _ = Usage
 
 abbrev pub command_request : Command → Uses → List Text → Request

@@ -63,17 +63,11 @@ table =
 
 abbrev pub includes : Takers → Command → Bool
 includes RunAlone Run = true
-includes RunAlone Report = false
-includes RunAlone Annotate = false
-includes RunAlone Demo = false
 includes RunAndReport Run = true
 includes RunAndReport Report = true
-includes RunAndReport Annotate = false
-includes RunAndReport Demo = false
-includes ReportAndAnnotate Run = false
 includes ReportAndAnnotate Report = true
 includes ReportAndAnnotate Annotate = true
-includes ReportAndAnnotate Demo = false
+includes _ _ = false
 
 abbrev pub rows_of : Command → List Row
 rows_of command = filter (λ row. includes row.takers command) table

@@ -2,6 +2,7 @@
 use Rattle.std.specs.Prelude.{ℕ, zero, suc, ◌^◌, ◌*◌, ◌==◌, ◌&&◌, ◌||◌, Bool, true, false, nat_le, nat_lt}
 use Rattle.std.specs.Prelude.{if◌then◌else◌, Option, Some, None, length, is_some}
 use Rattle.std.specs.List.{after_first, before_first, list_all}
+use Rattle.std.specs.Option.{option_map_or}
 use Rattle.std.specs.Str.Parse.{digits_value, without_leading_plus}
 use Rattle.cache_lru.specs.Shape.{Shape, most_size}
 use Rattle.sorted_words.specs.Sorting.{Text, is_among}
@@ -60,18 +61,13 @@ abbrev pub shape_of : Text → Option Shape
 shape_of text =
     shape_with (small_number (part text)) (small_number (part (others text))) (small_number (others (others text)))
 
-abbrev pub is_between : ℕ → ℕ → Option ℕ → Bool
-is_between least most None = false
-is_between least most (Some n) = nat_le least n && nat_le n most
-
-abbrev pub is_within : Option ℕ → ℕ → Bool
-is_within None n = true
-is_within (Some most) n = nat_le n most
+abbrev pub is_between : ℕ → ℕ → ℕ → Bool
+is_between least most n = nat_le least n && nat_le n most
 
 -- the option may have this VALUE
 abbrev pub accepts : Kind → Text → Bool
 accepts AnyText text = true
-accepts (Sized least most) text = nat_le least (length text) && is_within most (length text)
-accepts (Number least most) text = is_between least most (number text)
+accepts (Sized least most) text = nat_le least (length text) && option_map_or (nat_le (length text)) most true
+accepts (Number least most) text = option_map_or (is_between least most) (number text) false
 accepts Cache text = is_some (shape_of text)
 accepts (OneOf words) text = is_among words text

@@ -1,8 +1,8 @@
 //! Whether the options and values of a command are those that it may have.
 
-ghost use Rattle.std.specs.Prelude.{◌≡◌, filter};
+ghost use Rattle.std.specs.Prelude.{◌≡◌, filter, length, nat_lt};
 ghost use Rattle.std.specs.List.{list_all};
-ghost use Rattle.command_words.specs.Request.{are_fine, at_most_one, counts_one, has_its_values, is_fine, is_named};
+ghost use Rattle.command_words.specs.Request.{are_fine, at_most_one, counts_one, has_its_values, is_fine};
 ghost use Rattle.command_words.specs.Request.{sort_is_shown};
 ghost use Rattle.command_words.specs.Meaning.{uses_of};
 ghost use Rattle.command_words.specs.Rows.{command_of, row_of, takers_of};
@@ -43,7 +43,7 @@ pub fn are_fine(command: Command, given: &SortedWords<'_>) -> bool
 
 /// Whether PROG or a file is named.
 fn is_named(given: &SortedWords<'_>) -> bool
-    ensures { result ≡ is_named given.now.values }
+    ensures { result ≡ nat_lt 0 (length given.now.values) }
 {
     match given.values() {
         Some(values) => !values.is_empty(),

@@ -1,14 +1,15 @@
 //! What a command asks for, each option with its value or its default.
 
 ghost use Rattle.std.specs.Prelude.{◌≡◌, [], IfOk, map, option_map, string_bytes};
-ghost use Rattle.command_words.specs.Request.{default_first, default_last, demo, first, first_number};
-ghost use Rattle.command_words.specs.Request.{first_shape, job, command_request, tree_of, view};
+ghost use Rattle.command_words.specs.Request.{default_first, default_last, demo, first};
+ghost use Rattle.command_words.specs.Request.{job, command_request, tree_of, view};
+ghost use Rattle.command_words.specs.Values.{number, shape_of};
 ghost use Rattle.command_words.specs.Request.{positions as positions_asked, watching as watching_asked};
 ghost use Rattle.command_words.specs.Request.{Tree as asked_tree};
 ghost use Rattle.command_words.specs.Meaning.{job_of, meaning_of, positions_of, uses_of, view_of, watching_of};
 ghost use Rattle.command_words.specs.Meaning.{tree_of as meaning_of_tree};
 ghost use Rattle.command_words.specs.Rows.{command_of};
-ghost use Rattle.std.specs.Prelude.{codes, unwrap_or};
+ghost use Rattle.std.specs.Prelude.{codes, option_and_then, unwrap_or};
 
 use crate::option_values::{first, first_geometry, first_number, first_small_number, says};
 use crate::request::{Dumps, Geometries, Job, Positions, Request, Tree, View, Watching};
@@ -48,9 +49,9 @@ fn default_last() -> Geometry
 }
 
 fn caches(given: &SortedWords<'_>) -> Geometries
-    ensures i1 { result.i1 ≡ unwrap_or (first_shape (uses_of given.now (codes "I1"))) default_first }
-    ensures d1 { result.d1 ≡ unwrap_or (first_shape (uses_of given.now (codes "D1"))) default_first }
-    ensures ll { result.ll ≡ unwrap_or (first_shape (uses_of given.now (codes "LL"))) default_last }
+    ensures i1 { result.i1 ≡ unwrap_or (option_and_then shape_of (first (uses_of given.now (codes "I1")))) default_first }
+    ensures d1 { result.d1 ≡ unwrap_or (option_and_then shape_of (first (uses_of given.now (codes "D1")))) default_first }
+    ensures ll { result.ll ≡ unwrap_or (option_and_then shape_of (first (uses_of given.now (codes "LL")))) default_last }
 {
     Geometries {
         i1: first_geometry(given, "I1").unwrap_or(default_first()),
@@ -60,7 +61,7 @@ fn caches(given: &SortedWords<'_>) -> Geometries
 }
 
 fn dumps<'a>(given: &SortedWords<'a>) -> Dumps<'a>
-    ensures every { result.every ≡ first_number (uses_of given.now (codes "dump-every")) }
+    ensures every { result.every ≡ option_and_then number (first (uses_of given.now (codes "dump-every"))) }
     ensures before { option_map (λ name. name.now) result.before ≡ first (uses_of given.now (codes "dump-before")) }
     ensures after { option_map (λ name. name.now) result.after ≡ first (uses_of given.now (codes "dump-after")) }
 {

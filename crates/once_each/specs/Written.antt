@@ -18,8 +18,7 @@ use Rattle.once_each.specs.Parts.{ThreadRows}
 
 -- the segments of a run, each with its trigger; the last one ends with the program
 abbrev pub segments_of : SymbolMap → DumpPoints → List Step → List (List Step × Trigger)
-segments_of syms asked steps =
-    (cuts syms asked steps).closed ++ ((cuts syms asked steps).recent, Termination) ∷ []
+segments_of syms asked steps = (cuts syms asked steps).closed ++ ((cuts syms asked steps).recent, Termination) ∷ []
 
 -- Any of these events are summed up in their rows.
 abbrev pub SumsUp : SymbolMap → (List EventOnStack → Listed) → List EventOnStack → Type 0

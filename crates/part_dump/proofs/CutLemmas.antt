@@ -4,7 +4,7 @@ use Rattle.std.proofs.Common.{◌++◌, flat_map, length, map, Option, None, Som
 use Rattle.std.proofs.lemmas.Bool.Decides.{nat_tests}
 use Rattle.cache_lru.specs.Costs.{each_after}
 use Rattle.sym_map.specs.SymbolMap.{SymbolMap}
-use Rattle.part_dump.specs.Cuts.{DumpPoints, Split, closes, cut_after, cuts, marked_steps, marked_after, most_cuts, split}
+use Rattle.part_dump.specs.Cuts.{DumpPoints, Split, closes, cut_after, cuts, marked_after, most_cuts, split}
 use Rattle.part_dump.specs.Cuts.{with_first, with_last}
 use Rattle.part_dump.specs.Steps.{Step}
 use Rattle.cache_lru.proofs.HistoryLemmas.{each_after-push}
@@ -104,16 +104,18 @@ marks_of syms asked earlier (x ∷ xs) = ap (λ ys. x ∷ ys) (marks_of syms ask
 pub cuts_together : (syms : SymbolMap) (asked : DumpPoints) (trace : List Step)
     → flat_map (λ s. s.0) (cuts syms asked trace).closed ++ (cuts syms asked trace).recent ≡ trace
 unfolding cuts
-cuts_together syms asked trace = split_together most_cuts (marked_steps syms asked trace) ∙ marks_of syms asked [] trace
+cuts_together syms asked trace =
+    split_together most_cuts (each_after (marked_after syms asked) [] trace) ∙ marks_of syms asked [] trace
 
 pub cuts_limit : (syms : SymbolMap) (asked : DumpPoints) (trace : List Step)
     → length (cuts syms asked trace).closed ≤ most_cuts
 unfolding cuts
-cuts_limit syms asked trace = split_limit most_cuts (marked_steps syms asked trace)
+cuts_limit syms asked trace = split_limit most_cuts (each_after (marked_after syms asked) [] trace)
 
 pub cuts_push : (syms : SymbolMap) (asked : DumpPoints) (trace : List Step) (x : Step) → cuts syms asked (trace ++ x ∷ [])
     ≡ with_last most_cuts (cuts syms asked trace) x (cut_after syms asked (length trace + 1) x.on_stack)
 unfolding cuts
 cuts_push syms asked trace x =
     ap (split most_cuts) (each_after-push (marked_after syms asked) [] trace x)
-    ∙ split_push most_cuts (marked_steps syms asked trace) x (cut_after syms asked (length trace + 1) x.on_stack)
+    ∙ split_push most_cuts (each_after (marked_after syms asked) [] trace) x
+    (cut_after syms asked (length trace + 1) x.on_stack)

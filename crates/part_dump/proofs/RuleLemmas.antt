@@ -4,7 +4,7 @@ use Rattle.std.proofs.Common.{List, [], ◌∷◌, arith}
 use Rattle.std.proofs.Common.{map, slice_get, Decides, Option, None, Some, option_map}
 use Rattle.std.proofs.Common.{if◌then◌else◌, refl, ap, sym, ◌∙◌}
 use Rattle.std.specs.List.{list_any}
-use Rattle.std.specs.Option.{option_map_or}
+use Rattle.std.specs.Option.{option_map_or, option_or}
 use Rattle.std.specs.Str.{bytes_eq}
 use Rattle.std.proofs.lemmas.Bool.{false≢true}
 use Rattle.std.proofs.lemmas.Bool.Decides.{nat_tests, same_from_decides}
@@ -20,7 +20,7 @@ use Rattle.sym_map.specs.SymbolMap.{SymbolMap}
 use Rattle.shadow_stack.specs.Changes.{change}
 use Rattle.shadow_stack.specs.Stacks.{Activation}
 use Rattle.shadow_stack.specs.Traces.{EventOnStack}
-use Rattle.part_dump.specs.Cuts.{DumpPoints, after_cut, before_cut, cut_after, dropped_frames, every_cut, has_name, or_else}
+use Rattle.part_dump.specs.Cuts.{DumpPoints, after_cut, before_cut, cut_after, dropped_frames, every_cut, has_name}
 use Rattle.part_dump.specs.Rules.{AreNamed, IsNotedOf, IsRuleOf, Rule, after_due, before_due, due_after}
 
 is_text-Decides : (o : Option (List ℕ)) (name : List ℕ)
@@ -72,12 +72,12 @@ pub due_is_cut : (syms : SymbolMap) (asked : DumpPoints) (rule : Rule) (steps : 
     → IsRuleOf syms asked rule → IsNotedOf syms rule.after x noted
     → due_after rule steps noted ≡ cut_after syms asked steps x
 due_is_cut syms asked rule steps x noted is did =
-    ap (λ (a : DumpPoints). or_else (every_cut a.every steps)
-    (or_else (before_due rule noted.pushed a.before) (after_due noted.left a.after)))
+    ap (λ (a : DumpPoints). option_or (every_cut a.every steps)
+    (option_or (before_due rule noted.pushed a.before) (after_due noted.left a.after)))
     is.said
-    ∙ ap (λ b. or_else (every_cut asked.every steps) (or_else b (after_due noted.left asked.after)))
+    ∙ ap (λ b. option_or (every_cut asked.every steps) (option_or b (after_due noted.left asked.after)))
     (before_is syms rule asked.before x noted.pushed is.before did.pushed)
-    ∙ ap (λ b. or_else (every_cut asked.every steps) (or_else (before_cut syms asked.before x) b))
+    ∙ ap (λ b. option_or (every_cut asked.every steps) (option_or (before_cut syms asked.before x) b))
     (after_is syms rule asked.after x noted.left is.after did.left)
 
 none_before : (rule : Rule) (name : Option (List ℕ)) → before_due rule None name ≡ None
@@ -88,7 +88,7 @@ none_after : (name : Option (List ℕ)) → after_due false name ≡ None
 none_after None = refl
 none_after (Some name) = refl
 
-or_none : (t : Option Trigger) → or_else t None ≡ t
+or_none : (t : Option Trigger) → option_or t None ≡ t
 or_none None = refl
 or_none (Some t) = refl
 
@@ -98,7 +98,7 @@ pub cut_by_number : (syms : SymbolMap) (asked : DumpPoints) (rule : Rule) (steps
     → cut_after syms asked steps x ≡ every_cut asked.every steps
 cut_by_number syms asked rule steps x noted is did pushed left =
     let due : Option Trigger → Option Trigger → Option Trigger = λ b a.
-    or_else (every_cut rule.dump_points.every steps) (or_else b a) in
+    option_or (every_cut rule.dump_points.every steps) (option_or b a) in
     sym (due_is_cut syms asked rule steps x noted is did)
     ∙ ap (λ p. due (before_due rule p rule.dump_points.before) (after_due noted.left rule.dump_points.after)) pushed
     ∙ ap (λ b. due b (after_due noted.left rule.dump_points.after)) (none_before rule rule.dump_points.before)

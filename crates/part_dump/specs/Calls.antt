@@ -26,8 +26,7 @@ steps_calls xs = flat_map step_calls xs
 
 -- the head of a part, like any other head of its run
 abbrev pub head_of : PartHead → ℕ → Trigger → ℕ → PartHead
-head_of head part trigger thread =
-    record head { thread = record { 0 = thread }; part = part; trigger = trigger }
+head_of head part trigger thread = record head { thread = record { 0 = thread }; part = part; trigger = trigger }
 
 -- the thread and the pc of a step that was tried and not made, where there is one
 abbrev pub tried_calls : Option (ThreadNo × ℕ) → List Call

@@ -1,8 +1,8 @@
 -- Where a trace is cut into segments, and why.
 use Rattle.std.specs.Prelude.{ℕ, zero, suc, ◌+◌, ◌%◌, ◌==◌, Bool, false, List, [], ◌∷◌, ◌++◌, nat_lt, length, map}
-use Rattle.std.specs.Prelude.{slice_get, take, Option, None, Some, if◌then◌else◌}
+use Rattle.std.specs.Prelude.{slice_get, take, Option, None, Some, if◌then◌else◌, option_and_then}
 use Rattle.std.specs.List.{list_any}
-use Rattle.std.specs.Option.{option_map_or}
+use Rattle.std.specs.Option.{option_map_or, option_or}
 use Rattle.std.specs.Str.{bytes_eq}
 use Rattle.event_costs.specs.declared.numbers.FuncId.{FuncId}
 use Rattle.cg_format.specs.declared.trigger.Trigger.{Trigger}
@@ -37,27 +37,20 @@ dropped_frames syms x = take (drop_count syms x.event x.stack) x.stack
 abbrev pub leaves : SymbolMap → List ℕ → EventOnStack → Bool
 leaves syms name x = list_any (λ a. has_name syms name a.func) (dropped_frames syms x)
 
-abbrev pub or_else : Option Trigger → Option Trigger → Option Trigger
-or_else (Some t) other = Some t
-or_else None other = other
-
 -- the number of steps so far is a multiple of this one
 abbrev pub every_cut : Option ℕ → ℕ → Option Trigger
-every_cut None steps = None
-every_cut (Some n) steps = if steps % n == 0 then Some (Every n) else None
+every_cut every steps = option_and_then (λ n. if steps % n == 0 then Some (Every n) else None) every
 
 abbrev pub before_cut : SymbolMap → Option (List ℕ) → EventOnStack → Option Trigger
-before_cut syms None x = None
-before_cut syms (Some name) x = if enters syms name x then Some (Before name) else None
+before_cut syms before x = option_and_then (λ name. if enters syms name x then Some (Before name) else None) before
 
 abbrev pub after_cut : SymbolMap → Option (List ℕ) → EventOnStack → Option Trigger
-after_cut syms None x = None
-after_cut syms (Some name) x = if leaves syms name x then Some (After name) else None
+after_cut syms after x = option_and_then (λ name. if leaves syms name x then Some (After name) else None) after
 
 -- Whether a cut stands after an event, the last of so many, and its trigger: the first of these that holds.
 abbrev pub cut_after : SymbolMap → DumpPoints → ℕ → EventOnStack → Option Trigger
 cut_after syms asked steps x =
-    or_else (every_cut asked.every steps) (or_else (before_cut syms asked.before x) (after_cut syms asked.after x))
+    option_or (every_cut asked.every steps) (option_or (before_cut syms asked.before x) (after_cut syms asked.after x))
 
 -- Segments
 
@@ -90,12 +83,9 @@ most_cuts = 4095
 abbrev pub marked_after : SymbolMap → DumpPoints → List Step → Step → Step × Option Trigger
 marked_after syms asked before x = (x, cut_after syms asked (length before + 1) x.on_stack)
 
-abbrev pub marked_steps : SymbolMap → DumpPoints → List Step → List (Step × Option Trigger)
-marked_steps syms asked trace = each_after (marked_after syms asked) [] trace
-
 -- the segments of a trace
 unfoldable pub cuts : SymbolMap → DumpPoints → List Step → Split Step Trigger
-cuts syms asked trace = split most_cuts (marked_steps syms asked trace)
+cuts syms asked trace = split most_cuts (each_after (marked_after syms asked) [] trace)
 
 -- a list that is cut, with one more element and its mark; at most so many marks count
 abbrev pub with_last : {X T : Type 0} → ℕ → Split X T → X → Option T → Split X T

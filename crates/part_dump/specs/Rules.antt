@@ -2,7 +2,7 @@
 use Rattle.std.specs.Prelude.{◌≡◌, ℕ, ◌↔◌, Bool, false, List, Contains, Option, None, Some, option_map}
 use Rattle.std.specs.Prelude.{if◌then◌else◌}
 use Rattle.std.specs.List.{list_any}
-use Rattle.std.specs.Option.{option_map_or}
+use Rattle.std.specs.Option.{option_map_or, option_or}
 use Rattle.event_costs.specs.FuncSet.{is_among}
 use Rattle.event_costs.specs.declared.numbers.FuncId.{FuncId}
 use Rattle.event_costs.specs.declared.outcome.Noted.{Noted}
@@ -11,7 +11,7 @@ use Rattle.cg_format.specs.declared.trigger.Trigger.TheVariants.{Before, After}
 use Rattle.sym_map.specs.SymbolMap.{SymbolMap, IsNamed}
 use Rattle.shadow_stack.specs.Changes.{change}
 use Rattle.shadow_stack.specs.Traces.{EventOnStack}
-use Rattle.part_dump.specs.Cuts.{DumpPoints, dropped_frames, every_cut, or_else}
+use Rattle.part_dump.specs.Cuts.{DumpPoints, dropped_frames, every_cut}
 
 -- what was asked for, and the functions of the names
 pub record Rule : Type 0 where
@@ -46,5 +46,5 @@ after_due left (Some name) = if left then Some (After name) else None
 -- the trigger of a cut after the last of so many steps, which did this to its thread's stack
 abbrev pub due_after : Rule → ℕ → Noted → Option Trigger
 due_after rule steps noted =
-    or_else (every_cut rule.dump_points.every steps)
-    (or_else (before_due rule noted.pushed rule.dump_points.before) (after_due noted.left rule.dump_points.after))
+    option_or (every_cut rule.dump_points.every steps)
+    (option_or (before_due rule noted.pushed rule.dump_points.before) (after_due noted.left rule.dump_points.after))

@@ -15,7 +15,8 @@ use Rattle.event_costs.specs.Costs.{IsWhole, event_names, events_shown}
 use Rattle.byte_text.specs.Names.{clean_name}
 use Rattle.arc_costs.specs.Contents.{Listed}
 use Rattle.arc_costs.specs.Rows.{ArcRow, LineRow}
-use Rattle.sym_map.specs.Places.{unknown_function, unknown_name}
+use Rattle.byte_text.specs.Names.{unknown as unknown_name}
+use Rattle.sym_map.specs.Places.{unknown_function}
 use Rattle.sym_map.specs.SymbolMap.{SymbolMap, IsSound, identities}
 use Rattle.cg_format.specs.Part.{part_text}
 use Rattle.cg_format.specs.declared.head.PartHead.{PartHead}

@@ -1,5 +1,6 @@
 -- What the reader knows after lines that a writer has written.
-use Rattle.sym_map.specs.Places.{Identity, unknown_function, unknown_name}
+use Rattle.byte_text.specs.Names.{unknown as unknown_name}
+use Rattle.sym_map.specs.Places.{Identity, unknown_function}
 use Rattle.sym_map.specs.SymbolMap.{identity_in}
 use Rattle.std.proofs.Common.{get_or}
 use Rattle.std.proofs.lemmas.List.{get_or-map}

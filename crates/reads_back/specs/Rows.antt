@@ -39,11 +39,8 @@ pub record AreWritable (m : SymbolMap) (rows : Listed) : Type 0 where
 
 -- a function of a map, by texts: the object of the part, and what makes the function
 abbrev pub key_of : PartHead → SymbolMap → FuncId → FuncKey
-key_of head m func = record {
-  object = clean_name head.object;
-  file = (identity_of m func).file;
-  name = (identity_of m func).name;
-}
+key_of head m func =
+    record { object = clean_name head.object; file = (identity_of m func).file; name = (identity_of m func).name }
 
 -- the texts of a map's functions and files in a part
 abbrev pub naming : PartHead → SymbolMap → Naming

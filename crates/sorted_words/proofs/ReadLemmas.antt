@@ -1,7 +1,8 @@
 -- `clap`'s walk over the words behind a command is the rule's reading of them.
 use Rattle.std.proofs.Common.{◌≡◌, ◌∙◌, ◌&&◌, ◌||◌, Bool, true, false, cond, List, [], ◌∷◌, refl, sym, ap, subst, ℕ}
 use Rattle.std.proofs.Common.{Option, Some, None, fold, length, drop}
-use Rattle.std.specs.Prelude.{encode_utf8, nat_lt, slice_get}
+use Rattle.std.specs.Prelude.{◌==◌, encode_utf8, nat_lt, option_map, slice_get}
+use Rattle.std.specs.List.{after_first, list_any}
 use Rattle.std.specs.Option.{option_map_or}
 use Rattle.std.specs.Str.{IsUtf8, bytes_eq, chars}
 use Rattle.clap.specs.Faults.{bundle_fault, bundle_step_fault, flag_word_fault, flags_fault, long_fault, option_fault}
@@ -19,8 +20,8 @@ use Rattle.clap.specs.declared.builder.value_parser.Reading.{Reading}
 use Rattle.clap.specs.declared.builder.value_parser.Reading.TheVariants.{AsWritten}
 use Rattle.clap.specs.declared.error.kind.ErrorKind.TheVariants.{InvalidValue, UnknownArgument}
 use Rattle.clap.specs.declared.parser.matches.ValueSource.TheVariants.{CommandLine}
-use Rattle.sorted_words.specs.Sorting.{SortedCommand, Text, Word, apart, end, fault, has_value, is_among, is_value, joined}
-use Rattle.sorted_words.specs.Sorting.{name_of, option_word, sort_words, sorted_word, value_of, with_option, with_value}
+use Rattle.sorted_words.specs.Sorting.{SortedCommand, Text, Word, apart, end, fault, is_among, is_value, joined}
+use Rattle.sorted_words.specs.Sorting.{name_of, option_word, sort_words, sorted_word, with_option}
 use Rattle.sorted_words.specs.Sorting.{word_of}
 use Rattle.sorted_words.specs.Sorting.{value as value_word}
 use Rattle.sorted_words.specs.inner.Builder.{values_id}
@@ -100,7 +101,8 @@ module _ (s : Shape) (names : List Text) (built : IsBuilt s.rules names) where
 
   agrees_value : (how : Reading) (before after : List Row) (kinds : Kinds) (word : Text) (rest : Option SortedCommand)
       → Agrees (with_values values_id how CommandLine (word ∷ []) before) kinds after rest
-      → Agrees before kinds after (with_value word rest)
+      → Agrees before kinds after
+      (option_map {T = SortedCommand} (λ sorted. record sorted { values = word ∷ sorted.values }) rest)
   agrees_value how before after kinds word None h = h
   agrees_value how before after kinds word (Some more) h =
       (h.0, adds_value names built.unnamed how CommandLine before after word more h.1)
@@ -332,11 +334,12 @@ module _ (s : Shape) (names : List Text) (built : IsBuilt s.rules names) where
       (built.no_long (name_of text) off))
 
   abbrev value_if : Bool → Text → Option Text
-  value_if b text = cond b (Some (value_of text)) None
+  value_if b text = cond b (Some (after_first (λ byte. byte == 61) text)) None
 
   known_fault : (r : List Row) (p : Option (Text × List Text)) (w : Waiting) (word text : Text) (b : Bool)
       → bytes_eq word dashes ≡ false
-      → long_of word ≡ Some (name_and_value text) → is_among names (name_of text) ≡ true → has_value text ≡ b
+      → long_of word ≡ Some (name_and_value text) → is_among names (name_of text) ≡ true
+      → list_any (λ byte. byte == 61) text ≡ b
       → word_fault s [] false w word (held r p)
       ≡ option_fault s.rules again (built_option (name_of text)) (value_if b text) (held r p)
   known_fault r p w word text b e3 e4 known e =
@@ -347,7 +350,8 @@ module _ (s : Shape) (names : List Text) (built : IsBuilt s.rules names) where
 
   known_met : (r : List Row) (p : Option (Text × List Text)) (w : Waiting) (word text : Text) (b : Bool)
       → bytes_eq word dashes ≡ false
-      → long_of word ≡ Some (name_and_value text) → is_among names (name_of text) ≡ true → has_value text ≡ b
+      → long_of word ≡ Some (name_and_value text) → is_among names (name_of text) ≡ true
+      → list_any (λ byte. byte == 61) text ≡ b
       → word_met s.rules [] false w 1 word (held r p)
       ≡ after_flag s.rules w word (option_met s.rules (built_option (name_of text)) (value_if b text) (held r p)).0
       (option_met s.rules (built_option (name_of text)) (value_if b text) (held r p)).1
@@ -384,28 +388,30 @@ module _ (s : Shape) (names : List Text) (built : IsBuilt s.rules names) where
     free_long : (r : List Row) (p : Option (Text × List Text)) (w : Waiting) (text : Text)
         → settle_fault s.rules again (held r p) ≡ []
         → bytes_eq word dashes ≡ false → long_of word ≡ Some (name_and_value text)
-        → (known : Bool) → is_among names (name_of text) ≡ known → (b : Bool) → has_value text ≡ b
+        → (known : Bool) → is_among names (name_of text) ≡ known → (b : Bool) → list_any (λ byte. byte == 61) text ≡ b
         → Agrees (settled_rows s.rules p r) (faults (at r p w false) (word ∷ words))
         (rows (at r p w false) (word ∷ words))
         (sorted_word
-        (cond known (cond b (joined (name_of text) (value_of text)) (apart (name_of text))) fault) word words
+        (cond known (cond b (joined (name_of text) (after_first (λ byte. byte == 61) text)) (apart (name_of text))) fault)
+        word words
         (sort_words names words))
     free_long r p w text none e3 e4 false off b e =
         turn_fails (at r p w false) word words
         (turn_refused r p w false word (unknown_refused r p w word text e3 e4 off))
     free_long r p w text none e3 e4 true known true e =
         let there = settled_rows s.rules p r in
-        let now = with_values (name_of text) AsWritten CommandLine (value_of text ∷ []) there in
+        let now = with_values (name_of text) AsWritten CommandLine (after_first (λ byte. byte == 61) text ∷ []) there in
         let met = known_met r p w word text true e3 e4 known e in
         stepped there (at r p w false) (at now None idle false) word words
-        (with_option (name_of text) (value_of text) (sort_words names words None))
+        (with_option (name_of text) (after_first (λ byte. byte == 61) text) (sort_words names words None))
         (turn_none r p w false word (held now None) (next idle)
         (known_fault r p w word text true e3 e4 known e
         ∙ ap (λ (k : Kinds). or_else k
-        (use_fault again (built_option (name_of text)) (value_of text ∷ []) there)) none) met refl)
+        (use_fault again (built_option (name_of text)) (after_first (λ byte. byte == 61) text ∷ []) there)) none) met
+        refl)
         (walked_to r p w false word (held now None) (next idle) met)
         (agrees_option AsWritten there (rows (at now None idle false) words) (faults (at now None idle false) words)
-        (name_of text) (value_of text)
+        (name_of text) (after_first (λ byte. byte == 61) text)
         (sort_words names words None) known (rest.free now None idle tt refl))
     free_long r p w text none e3 e4 true known false e =
         let there = settled_rows s.rules p r in
@@ -448,14 +454,16 @@ module _ (s : Shape) (names : List Text) (built : IsBuilt s.rules names) where
         (rows now words) (sort_words names words None) =
         rw (← values_stand there word) next_read in
         sorted_as there (at r p w false) value_word e1
-        (stepped there (at r p w false) now word words (with_value word (sort_words names words None))
+        (stepped there (at r p w false) now word words
+        (option_map {T = SortedCommand} (λ sorted. record sorted { values = word ∷ sorted.values })
+        (sort_words names words None))
         (turn_none r p w false word (held r p) value passes met (values_take r p none))
         (walked_to r p w false word (held r p) value met ∙ to_values r p w false word false refl)
         (agrees_value AsWritten there (rows now words) (faults now words) word (sort_words names words None) more))
     free_word r p w free none (long text e1 e2 e3 e4) =
         let there = settled_rows s.rules p r in
         sorted_as there (at r p w false) (option_word names text) e1
-        (free_long r p w text none e3 e4 (is_among names (name_of text)) refl (has_value text) refl)
+        (free_long r p w text none e3 e4 (is_among names (name_of text)) refl (list_any (λ byte. byte == 61) text) refl)
     free_word r p w free none (short flags e1 e2 e3 e4 e5 x more is whole) =
         let there = settled_rows s.rules p r in
         sorted_as there (at r p w false) fault e1
@@ -477,14 +485,15 @@ module _ (s : Shape) (names : List Text) (built : IsBuilt s.rules names) where
     -- an option is no VALUE
     lacking_long : (r : List Row) (name text : Text) → is_among names name ≡ true → bytes_eq word dashes ≡ false
         → long_of word ≡ Some (name_and_value text)
-        → (known : Bool) → is_among names (name_of text) ≡ known → (b : Bool) → has_value text ≡ b
+        → (known : Bool) → is_among names (name_of text) ≡ known → (b : Bool) → list_any (λ byte. byte == 61) text ≡ b
         → word_fault s [] false (option name) word (held r (Some (name, []))) ≡ [] → ⊥
     lacking_long r name text among e3 e4 false off b e none =
         unknown_refused r (Some (name, [])) (option name) word text e3 e4 off none
     lacking_long r name text among e3 e4 true known true e none =
         option_lacks r name among
         (first_none (settle_fault s.rules again (held r (Some (name, []))))
-        (use_fault again (built_option (name_of text)) (value_of text ∷ []) (settled_rows s.rules (Some (name, [])) r))
+        (use_fault again (built_option (name_of text)) (after_first (λ byte. byte == 61) text ∷ [])
+        (settled_rows s.rules (Some (name, [])) r))
         (sym (known_fault r (Some (name, [])) (option name) word text true e3 e4 known e) ∙ none))
     lacking_long r name text among e3 e4 true known false e none =
         option_lacks r name among
@@ -540,7 +549,8 @@ module _ (s : Shape) (names : List Text) (built : IsBuilt s.rules names) where
         lacking_as r (at r (Some (name, [])) (option name) false) name false e2
         (turn_fails (at r (Some (name, [])) (option name) false) word words
         (turn_refused r (Some (name, [])) (option name) false word
-        (lacking_long r name text known e3 e4 (is_among names (name_of text)) refl (has_value text) refl)))
+        (lacking_long r name text known e3 e4 (is_among names (name_of text)) refl (list_any (λ byte. byte == 61) text)
+        refl)))
     lacking_word r name known (short flags e1 e2 e3 e4 e5 x more is whole) =
         lacking_as r (at r (Some (name, [])) (option name) false) name false e2
         (turn_fails (at r (Some (name, [])) (option name) false) word words

@@ -44,17 +44,12 @@ pub data Word : Type 0 where
 abbrev pub name_of : Text → Text
 name_of text = before_first (λ byte. byte == 61) text
 
-abbrev pub has_value : Text → Bool
-has_value text = list_any (λ byte. byte == 61) text
-
-abbrev pub value_of : Text → Text
-value_of text = after_first (λ byte. byte == 61) text
-
 -- what follows `--`, where NAME is one of the command's
 abbrev pub option_word : List Text → Text → Word
 option_word names text =
     if is_among names (name_of text)
-    then (if has_value text then joined (name_of text) (value_of text) else apart (name_of text))
+    then (if list_any (λ byte. byte == 61) text then joined (name_of text) (after_first (λ byte. byte == 61) text)
+    else apart (name_of text))
     else fault
 
 abbrev pub word_of : List Text → Text → Word
@@ -63,16 +58,14 @@ word_of names word =
     else (if is_value word then value
     else (if starts_with nat_eq word (codes "--") then option_word names (drop 2 word) else fault))
 
-abbrev pub with_value : Text → Option SortedCommand → Option SortedCommand
-with_value word = option_map {T = SortedCommand} (λ rest. record rest { values = word ∷ rest.values })
-
 abbrev pub with_option : Text → Text → Option SortedCommand → Option SortedCommand
 with_option name word = option_map {T = SortedCommand} (λ rest. record rest { options = (name, word) ∷ rest.options })
 
 -- `rest` is how the words behind this one are read, where that NAME waits for its VALUE
 abbrev pub sorted_word : Word → Text → List Text → (Option Text → Option SortedCommand) → Option SortedCommand
 sorted_word end word words rest = Some (record { options = []; values = words })
-sorted_word value word words rest = with_value word (rest None)
+sorted_word value word words rest =
+    option_map {T = SortedCommand} (λ sorted. record sorted { values = word ∷ sorted.values }) (rest None)
 sorted_word (apart name) word words rest = rest (Some name)
 sorted_word (joined name text) word words rest = with_option name text (rest None)
 sorted_word fault word words rest = None

@@ -10,7 +10,8 @@ use Rattle.annotate.specs.declared.source.Source.TheVariants.{Found, Missing, To
 use Rattle.byte_text.specs.Memory.{memory}
 use Rattle.profile_files.specs.Loads.{IsLoad, faultless_load}
 use Rattle.profile_files.proofs.CompleteLemmas.{held_load}
-use Rattle.source_files.specs.Sources.{AreTexts, folder_name, load_behind, source_limit}
+use Rattle.outside.specs.Limits.{text_limit}
+use Rattle.source_files.specs.Sources.{AreTexts, folder_name, load_behind}
 
 -- the source behind a load
 source_of : Load → Source
@@ -20,13 +21,13 @@ source_of (Err (load.TooLong len)) = TooLong len
 source_of (Err (load.OutOfMemory _)) = Missing
 
 abbrev held : Files → List ℕ → Load
-held contents name = faultless_load (file contents (folder_name name)) source_limit
+held contents name = faultless_load (file contents (folder_name name)) text_limit
 
 held_source : (contents : Files) (before now : ℕ) (name : List ℕ) (source : Source) → (Rose before now → ⊥)
-    → IsLoad (Some contents) (folder_name name) source_limit before now (load_behind source)
+    → IsLoad (Some contents) (folder_name name) text_limit before now (load_behind source)
     → load_behind source ≡ held contents name
 held_source contents before now name source calm loads =
-    by source (held_load (Some contents) contents (folder_name name) source_limit before now (load_behind source) refl calm loads)
+    by source (held_load (Some contents) contents (folder_name name) text_limit before now (load_behind source) refl calm loads)
   where
     by : (s : Source) → (load_behind s ≡ held contents name) ⊎ (load_behind s ≡ Err (load.OutOfMemory memory))
         → load_behind s ≡ held contents name

@@ -12,7 +12,8 @@ use Rattle.byte_text.specs.Names.{clean_name, clean_byte, is_printable, stays}
 use Rattle.byte_text.specs.declared.memory.OutOfMemory.{OutOfMemory}
 use Rattle.annotate.specs.declared.source.Source.{Source}
 use Rattle.profile_files.specs.Loads.{IsLoad}
-use Rattle.source_files.specs.Sources.{folder_name, load_behind, source_limit}
+use Rattle.outside.specs.Limits.{text_limit}
+use Rattle.source_files.specs.Sources.{folder_name, load_behind}
 
 printable : (byte : ℕ) → is_printable byte ≡ true → byte < 128
 printable byte is =
@@ -53,7 +54,7 @@ named_cleaned text name other same =
 -- the load under another name that is the same
 pub loaded_as : (told : Option Files) (before now : ℕ) (name wanted : List ℕ) (result : Result Source OutOfMemory)
     → name ≡ wanted
-    → IfOk result (λ source. IsLoad told name source_limit before now (load_behind source))
-    → IfOk result (λ source. IsLoad told wanted source_limit before now (load_behind source))
+    → IfOk result (λ source. IsLoad told name text_limit before now (load_behind source))
+    → IfOk result (λ source. IsLoad told wanted text_limit before now (load_behind source))
 loaded_as told before now name wanted result same loaded =
-    subst (λ n. IfOk result (λ source. IsLoad told n source_limit before now (load_behind source))) same loaded
+    subst (λ n. IfOk result (λ source. IsLoad told n text_limit before now (load_behind source))) same loaded

@@ -16,7 +16,8 @@ use Rattle.annotate.specs.Report.{SourceTexts}
 use Rattle.annotate.specs.declared.source.Source.{Source}
 use Rattle.annotate.specs.declared.source.Source.TheVariants.{Found, Missing, TooLong}
 use Rattle.profile_files.specs.Loads.{IsLoad}
-use Rattle.source_files.specs.Sources.{AreSources, AreTexts, folder_name, is_lost, load_behind, source_limit}
+use Rattle.outside.specs.Limits.{text_limit}
+use Rattle.source_files.specs.Sources.{AreSources, AreTexts, folder_name, is_lost, load_behind}
 use Rattle.profile_files.proofs.LoadLemmas.{IsLoad-within}
 
 AreTexts-within : (told : Option Files) (before from to now : ℕ) (names : List (List ℕ)) (texts : SourceTexts)
@@ -26,14 +27,14 @@ AreTexts-within told before from to now [] (text ∷ texts) early late are = are
 AreTexts-within told before from to now (name ∷ names) [] early late are = are
 AreTexts-within told before from to now (name ∷ names) (text ∷ texts) early late are = (
   are.0,
-  IsLoad-within told (folder_name name) source_limit before from to now (load_behind text.1) early late are.1,
+  IsLoad-within told (folder_name name) text_limit before from to now (load_behind text.1) early late are.1,
   AreTexts-within told before from to now names texts early late are.2,
 )
 
 AreTexts-more : (told : Option Files) (before now : ℕ) (names : List (List ℕ)) (texts : SourceTexts) (name : List ℕ)
     (source : Source)
     → AreTexts told before now names texts
-    → IsLoad told (folder_name name) source_limit before now (load_behind source)
+    → IsLoad told (folder_name name) text_limit before now (load_behind source)
     → AreTexts told before now (names ++ name ∷ []) (texts ++ (name, source) ∷ [])
 AreTexts-more told before now [] [] name source are is = (refl, is, tt)
 AreTexts-more told before now [] (text ∷ texts) name source are is = absurd are
@@ -62,19 +63,19 @@ by_count from to (inr full) rose = inr (omega arith)
 
 -- Where a name that is held isn't loaded, the count rose.
 lost_one : (told : Option Files) (name : List ℕ) (from to : ℕ) (source : Source) → from ≤ to
-    → IsLoad told (folder_name name) source_limit from to (load_behind source)
+    → IsLoad told (folder_name name) text_limit from to (load_behind source)
     → (from + one told name source ≤ to) ⊎ (2 ^ 64 - 1 ≤ to)
 lost_one told name from to (Found text) later is = inl (omega arith)
 lost_one told name from to (TooLong len) later is = inl (omega arith)
 lost_one told name from to Missing later is =
-    by told (failing told (folder_name name) source_limit from to is.answer is.is is.answers)
+    by told (failing told (folder_name name) text_limit from to is.answer is.is is.answers)
   where
     risen : (told : Option Files) → Rose from to → (from + one told name Missing ≤ to) ⊎ (2 ^ 64 - 1 ≤ to)
     risen told rose =
         cond_both (is_lost told name Missing) 1 0 (λ n. (from + n ≤ to) ⊎ (2 ^ 64 - 1 ≤ to))
         (λ lost. by_count from to (cases_lt (from + 1) (2 ^ 64 - 1)) rose) (λ kept. inl (omega arith))
 
-    by : (told : Option Files) → LoadAnswers told (folder_name name) source_limit from to (Err load.Failed)
+    by : (told : Option Files) → LoadAnswers told (folder_name name) text_limit from to (Err load.Failed)
         → (from + one told name Missing ≤ to) ⊎ (2 ^ 64 - 1 ≤ to)
     by None rose = risen None rose
     by (Some files) (inr rose) = risen (Some files) rose
@@ -98,14 +99,14 @@ bound before from to lost more all (inr full) next later is = inr (omega arith)
 pub AreSources-more : (told seen : Option Files) (before from to : ℕ) (names : List (List ℕ)) (texts : SourceTexts)
     (name : List ℕ) (source : Source)
     → AreSources told before from names texts → before ≤ from → from ≤ to → seen ≡ told
-    → IsLoad seen (folder_name name) source_limit from to (load_behind source)
+    → IsLoad seen (folder_name name) text_limit from to (load_behind source)
     → AreSources told before to (names ++ name ∷ []) (texts ++ (name, source) ∷ [])
 AreSources-more told seen before from to names texts name source are early later same is =
-    let here : IsLoad told (folder_name name) source_limit from to (load_behind source) =
-    subst (λ t. IsLoad t (folder_name name) source_limit from to (load_behind source)) same is in record {
+    let here : IsLoad told (folder_name name) text_limit from to (load_behind source) =
+    subst (λ t. IsLoad t (folder_name name) text_limit from to (load_behind source)) same is in record {
       loaded = AreTexts-more told before to names texts name source
           (AreTexts-within told before before from to names texts (omega arith) later are.loaded)
-          (IsLoad-within told (folder_name name) source_limit before from to to (load_behind source) early
+          (IsLoad-within told (folder_name name) text_limit before from to to (load_behind source) early
           (omega arith) here);
       lost = bound before from to (count_by (λ text. is_lost told text.0 text.1) texts) (one told name source)
           (count_by (λ text. is_lost told text.0 text.1) (texts ++ (name, source) ∷ []))
@@ -130,7 +131,7 @@ pub AreSources-step : (told seen : Option Files) (before from to : ℕ) (names :
     (name item : List ℕ) (texts more : SourceTexts) (source : Source)
     → AreSources told before from (take i names) texts → before ≤ from → from ≤ to → seen ≡ told
     → i < length names → name ≡ get_or names i name → item ≡ name
-    → IsLoad seen (folder_name name) source_limit from to (load_behind source)
+    → IsLoad seen (folder_name name) text_limit from to (load_behind source)
     → more ≡ texts ++ (item, source) ∷ []
     → AreSources told before to (take (i + 1) names) more
 AreSources-step told seen before from to names i name item texts more source are early later same within is copied

@@ -1,6 +1,7 @@
 -- Source texts, as a folder gives them.
 use Rattle.std.specs.Prelude.{◌≡◌, ◌⊎◌, ℕ, ◌+◌, ◌-◌, ◌^◌, ◌≤◌, Bool, true, false, is_some, if◌then◌else◌, List, [], ◌∷◌}
 use Rattle.std.specs.Prelude.{◌++◌, map, count_by, Option, Some, None, Result, Ok, Err}
+use Rattle.std.specs.Option.{option_map_or}
 use Rattle.std.specs.Str.{is_utf8}
 use Rattle.byte_text.specs.Memory.{memory}
 use Rattle.byte_text.specs.declared.memory.OutOfMemory.{OutOfMemory}
@@ -15,10 +16,6 @@ use Rattle.outside.specs.Limits.{text_limit}
 use Rattle.outside.specs.Load.{Load}
 use Rattle.outside.specs.Journal.{Call, Loaded, TellsMore}
 
--- the most bytes that a source text may have
-abbrev pub source_limit : ℕ
-source_limit = text_limit
-
 -- the name under which the folder is asked for a file: the file's text where that is UTF-8, else its cleaned form
 abbrev pub folder_name : List ℕ → List ℕ
 folder_name text = if is_utf8 text then text else clean_name text
@@ -32,20 +29,14 @@ load_behind (TooLong len) = Err (load.TooLong len)
 -- The texts are those of these files, in their order, and each is what its load gave.
 abbrev pub AreTexts : Option Files → ℕ → ℕ → List (List ℕ) → SourceTexts → Type 0
 AreTexts told before now [] [] = Unit {0}
-AreTexts told before now [] (text ∷ texts) = ⊥
-AreTexts told before now (name ∷ names) [] = ⊥
 AreTexts told before now (name ∷ names) (text ∷ texts) =
-    (text.0 ≡ name) × IsLoad told (folder_name name) source_limit before now (load_behind text.1)
+    (text.0 ≡ name) × IsLoad told (folder_name name) text_limit before now (load_behind text.1)
     × AreTexts told before now names texts
+AreTexts told before now _ _ = ⊥
 
--- the folder holds the name, as far as it tells
-abbrev pub may_hold : Option Files → List ℕ → Bool
-may_hold (Some files) name = is_some (file files name)
-may_hold None name = true
-
--- a text that is missing, though the folder may hold it
+-- a text that is missing, though the folder holds its name, as far as it tells
 abbrev pub is_lost : Option Files → List ℕ → Source → Bool
-is_lost told name Missing = may_hold told (folder_name name)
+is_lost told name Missing = option_map_or (λ files. is_some (file files (folder_name name))) told true
 is_lost told name source = false
 
 -- The texts are what the folder gave. No more of them are lost than its count of faults rose, where that can show it.
@@ -58,12 +49,12 @@ pub record AreSources (told : Option Files) (before now : ℕ) (names : List (Li
 
 -- the load of a source under this name
 abbrev pub source_load : List ℕ → Source → Call
-source_load name source = Loaded name source_limit (load_behind source)
+source_load name source = Loaded name text_limit (load_behind source)
 
 -- the load of a source for which memory was wanting, or nothing, where it was before
 abbrev pub IsUnloaded : List ℕ → List Call → Type 0
 IsUnloaded name calls =
-    (calls ≡ []) ⊎ (calls ≡ Loaded name source_limit (Err (load.OutOfMemory memory)) ∷ [])
+    (calls ≡ []) ⊎ (calls ≡ Loaded name text_limit (Err (load.OutOfMemory memory)) ∷ [])
 
 -- what is asked for to load a source under this name
 abbrev pub TellsSource : List ℕ → Result Source OutOfMemory → Option (List Call) → Option (List Call) → Type 0

@@ -4,7 +4,7 @@ ghost use Rattle.std.specs.Prelude.{◌≡◌, ◌≤◌, IfOk};
 ghost use Rattle.byte_text.specs.Names.{clean_name};
 ghost use Rattle.profile_files.specs.Loads.{IsLoad};
 ghost use Rattle.source_files.specs.Sources.{AreSources, TellsSource, TellsSources, folder_name, load_behind};
-ghost use Rattle.source_files.specs.Sources.{source_limit};
+ghost use Rattle.outside.specs.Limits.{text_limit};
 
 use annotate::{Source, Texts};
 use byte_text::{OutOfMemory, Text, clean_name};
@@ -38,7 +38,7 @@ pub fn load_sources<F: Folder>(
 
 /// Loads the source text of a file.
 fn load_source<F: Folder>(alloc: Global, file: &Text, folder: &mut F) -> Result<Source, OutOfMemory>
-    ensures source { IfOk result (λ source. IsLoad (F.contents folder.old) (folder_name file.now) source_limit
+    ensures source { IfOk result (λ source. IsLoad (F.contents folder.old) (folder_name file.now) text_limit
         (F.load_faults folder.old) (F.load_faults folder.new) (load_behind source)) }
     ensures told { TellsSource (folder_name file.now) result (F.calls folder.old) (F.calls folder.new) }
     ensures same_contents { F.contents folder.new ≡ F.contents folder.old }
@@ -57,7 +57,7 @@ fn load_source<F: Folder>(alloc: Global, file: &Text, folder: &mut F) -> Result<
 
 /// Loads the text of this name.
 fn load_text<F: Folder>(name: &str, folder: &mut F) -> Result<Source, OutOfMemory>
-    ensures source { IfOk result (λ source. IsLoad (F.contents folder.old) name.now source_limit
+    ensures source { IfOk result (λ source. IsLoad (F.contents folder.old) name.now text_limit
         (F.load_faults folder.old) (F.load_faults folder.new) (load_behind source)) }
     ensures told { TellsSource name.now result (F.calls folder.old) (F.calls folder.new) }
     ensures same_contents { F.contents folder.new ≡ F.contents folder.old }

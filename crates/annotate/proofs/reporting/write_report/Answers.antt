@@ -1,4 +1,5 @@
-use Rattle.std.proofs.Common.{◌≡◌, ◌<◌, ◌++◌, ℕ, List, Vec, All, length, sym, ap, subst, ◌∙◌, arith}
+use Rattle.std.proofs.Common.{◌≡◌, ◌<◌, ◌++◌, ℕ, Bool, List, [], Vec, All, length, sym, ap, subst, ◌∙◌, arith}
+use Rattle.std.specs.Prelude.{flat_map, if◌then◌else◌}
 use Rattle.std.specs.List.{filter}
 use Rattle.std.specs.declared.alloc.Global.{Global}
 use Rattle.std.proofs.lemmas.List.FromFn.{length-map-range_with_len}
@@ -7,7 +8,7 @@ use Rattle.cg_read.specs.Totals.{total}
 use Rattle.annotate.specs.Calls.{calls_text}
 use Rattle.annotate.specs.Functions.{functions_text, heading}
 use Rattle.report_rows.specs.Orders.{is_shown}
-use Rattle.annotate.specs.Report.{sources_text}
+use Rattle.annotate.specs.Sources.{source_text}
 use Rattle.report_rows.specs.Ranks.{AreShown}
 use Rattle.report_rows.specs.Tables.{lists}
 use Rattle.report_rows.proofs.OrderLemmas.{count_of}
@@ -83,12 +84,13 @@ returns c =
     let t1 = c.put_heading.new.text in
     let t2 = c.put_groups.new.text in
     let t3 = c.put_calls.new.text in
-    let sources : c.if-options.text ≡ t3 ++ sources_text p options.auto texts =
+    let source_texts : Bool → List ℕ = λ b. if b then flat_map (λ t. source_text p t.0 t.1) texts else [] in
+    let sources : c.if-options.text ≡ t3 ++ source_texts options.auto =
     elim c.if-options.branch [
       | then-options+in_ok-put_sources w ↦
-          w.text-is ∙ w.in_ok-put_sources.ensures ∙ ap (λ b. t3 ++ sources_text p b texts) (sym w.if-options.true)
+          w.text-is ∙ w.in_ok-put_sources.ensures ∙ ap (λ b. t3 ++ source_texts b) (sym w.if-options.true)
       | else-options w ↦
-          w.text-is ∙ sym (append-nil t3) ∙ ap (λ b. t3 ++ sources_text p b texts) (sym w.if-options.false)
+          w.text-is ∙ sym (append-nil t3) ∙ ap (λ b. t3 ++ source_texts b) (sym w.if-options.false)
     ] in
     let final = filter (is_shown p costs options) chosen.ranked in
     record {
@@ -100,7 +102,7 @@ returns c =
       files = c.requires.files;
       is = four_parts c.new-text.result t1 t2 t3 c.if-options.text (heading p options)
           (functions_text p groups costs order final) (calls_text p groups order final options.tree)
-          (sources_text p options.auto texts) c.new-text.ensures c.in_ok-put_heading.ensures
+          (source_texts options.auto) c.new-text.ensures c.in_ok-put_heading.ensures
           (c.in_ok-put_groups.ensures ∙ ap (λ x. t1 ++ x) functions)
           (c.in_ok-put_calls.ensures ∙ ap (λ x. t2 ++ x) calls) sources;
     }
