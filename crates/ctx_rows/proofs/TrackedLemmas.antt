@@ -5,7 +5,8 @@ use Rattle.std.proofs.Common.{drop, refl, ap, sym, subst, ◌∙◌, arith}
 use Rattle.std.proofs.Common.{if◌then◌else◌}
 use Rattle.std.specs.List.{AllByRecursion, AllZip}
 use Rattle.std.specs.Option.{option_map_or}
-use Rattle.event_costs.specs.Arcs.{Pushed, Closed}
+use Rattle.std.proofs.lemmas.List.{drop-map}
+use Rattle.event_costs.specs.Arcs.{Pushed, Closed, Telling}
 use Rattle.event_costs.specs.Costs.{IsWhole, difference_of_costs, event_kinds, no_cost, sum_of_costs}
 use Rattle.event_costs.specs.declared.event.Event.{Event}
 use Rattle.event_costs.specs.Keys.{ArcKey, Place}
@@ -26,7 +27,7 @@ use Rattle.arc_costs.specs.Lines.{add_line, cleared_lines, line, plus_line}
 use Rattle.arc_costs.specs.Lines as lines
 use Rattle.event_costs.specs.Order as order
 use Rattle.arc_costs.specs.Rows.{ArcRow, LineRow}
-use Rattle.recorder.specs.Notes.{rows_of_tellings}
+use Rattle.recorder.specs.Notes.{row_of_telling, rows_of_tellings}
 use Rattle.recorder.specs.inner.TellerLaws.{rows_of_tellings-append}
 use Rattle.recorder.proofs.StandingLemmas.{one_more_sum}
 use Rattle.ctx_rows.specs.Contexts.{Context, context, context_at, number, with_context}
@@ -126,11 +127,6 @@ pub all_append : {X : Type 0} (P : X → Type 0) (xs ys : List X) → AllByRecur
 all_append P [] ys all more = more
 all_append P (x ∷ xs) ys all more = (all.0, all_append P xs ys all.1 more)
 
-pub drop_map : {X Y : Type 0} (f : X → Y) (n : ℕ) (xs : List X) → map f (drop n xs) ≡ drop n (map f xs)
-drop_map f zero xs = refl
-drop_map f (suc n) [] = refl
-drop_map f (suc n) (x ∷ xs) = drop_map f n xs
-
 drop_arcs : (callers n : ℕ) (s : Stack) → drop n (ctx_arcs callers s) ≡ ctx_arcs callers (drop n s)
 drop_arcs callers zero s = refl
 drop_arcs callers (suc n) [] = refl
@@ -143,54 +139,50 @@ difference_whole [] (y ∷ ys) within = absurd within
 difference_whole (x ∷ xs) [] within = absurd within
 difference_whole (x ∷ xs) (y ∷ ys) within = ap suc (difference_whole xs ys within.1)
 
--- what is told of frames that go has whole costs, and arcs in range
-module _ (total : List ℕ) (whole : IsWhole total) where
-  closings_whole : (fs : List Frame) → StartWithin total fs
-      → AllByRecursion (λ (r : ArcRow). IsWhole r.cost) (rows_of_tellings (closings total fs))
-  closings_whole [] all = tt
-  closings_whole (f ∷ fs) all =
-      subst (AllByRecursion (λ (r : ArcRow). IsWhole r.cost))
-      (sym (rows_of_tellings-append (closing total f) (closings total fs)))
-      (all_append (λ (r : ArcRow). IsWhole r.cost) (rows_of_tellings (closing total f)) (rows_of_tellings (closings total fs))
-      (by f.from) (closings_whole fs (StartWithin-tail total (f ∷ fs) fs f refl all)))
+-- what holds of each row that is told of frames that go and of one that comes
+module _ (P : ArcRow → Type 0) (total : List ℕ) where
+  told_one : (telling : ArcKey → Telling) (from : Option ArcKey) → IfSome from (λ key. P (row_of_telling (telling key)))
+      → AllByRecursion P (rows_of_tellings (option_map_or (λ key. telling key ∷ []) from []))
+  told_one telling None of = tt
+  told_one telling (Some key) of = (of, tt)
+
+  -- the frames have it, as they are told of
+  abbrev AreClosed : List Frame → Type 0
+  AreClosed fs =
+      AllByRecursion (λ (f : Frame). IfSome f.from (λ key. P (cost_of_arc key (difference_of_costs total f.start)))) fs
+
+  told_closings : (fs : List Frame) → AreClosed fs → AllByRecursion P (rows_of_tellings (closings total fs))
+  told_closings [] all = tt
+  told_closings (f ∷ fs) all =
+      subst (AllByRecursion P) (sym (rows_of_tellings-append (closing total f) (closings total fs)))
+      (all_append P (rows_of_tellings (closing total f)) (rows_of_tellings (closings total fs))
+      (told_one (λ key. Closed key (difference_of_costs total f.start)) f.from all.0) (told_closings fs all.1))
+
+  told : (fs : List Frame) (p : Option Activation) → AreClosed fs
+      → IfSome p (λ a. IfSome a.arc (λ key. P (row_of_telling (Pushed key))))
+      → AllByRecursion P (rows_of_tellings (closings total fs ++ pushing p))
+  told fs p all of =
+      subst (AllByRecursion P) (sym (rows_of_tellings-append (closings total fs) (pushing p)))
+      (all_append P (rows_of_tellings (closings total fs)) (rows_of_tellings (pushing p)) (told_closings fs all)
+      (comes p of))
     where
-      by : (from : Option ArcKey) → AllByRecursion (λ (r : ArcRow). IsWhole r.cost)
-          (rows_of_tellings (option_map_or (λ key. Closed key (difference_of_costs total f.start) ∷ []) from []))
-      by None = tt
-      by (Some key) = (difference_whole total f.start (all 0 f (omega arith)) ∙ whole, tt)
+      comes : (q : Option Activation) → IfSome q (λ a. IfSome a.arc (λ key. P (row_of_telling (Pushed key))))
+          → AllByRecursion P (rows_of_tellings (pushing q))
+      comes None of_ = tt
+      comes (Some a) of_ = told_one Pushed a.arc of_
 
-closings_numbers : (count : ℕ) (total : List ℕ) (fs : List Frame) → AllByRecursion (IsEnteredOf count) fs
-    → AllByRecursion (λ (r : ArcRow). IsArcOf count r.arc) (rows_of_tellings (closings total fs))
-closings_numbers count total [] all = tt
-closings_numbers count total (f ∷ fs) all =
-    subst (AllByRecursion (λ (r : ArcRow). IsArcOf count r.arc))
-    (sym (rows_of_tellings-append (closing total f) (closings total fs)))
-    (all_append (λ (r : ArcRow). IsArcOf count r.arc) (rows_of_tellings (closing total f)) (rows_of_tellings (closings total fs))
-    (by f.from all.0) (closings_numbers count total fs all.1))
-  where
-    by : (from : Option ArcKey) → IfSome from (IsArcOf count) → AllByRecursion (λ (r : ArcRow). IsArcOf count r.arc)
-        (rows_of_tellings (option_map_or (λ key. Closed key (difference_of_costs total f.start) ∷ []) from []))
-    by None of = tt
-    by (Some key) of = (of, tt)
+if_any : {X : Type 0} (P : X → Type 0) (o : Option X) → ((x : X) → P x) → IfSome o P
+if_any P None has = tt
+if_any P (Some x) has = has x
 
-pushing_whole : (p : Option Activation) → AllByRecursion (λ (r : ArcRow). IsWhole r.cost) (rows_of_tellings (pushing p))
-pushing_whole None = tt
-pushing_whole (Some a) = by a.arc
-  where
-    by : (from : Option ArcKey) → AllByRecursion (λ (r : ArcRow). IsWhole r.cost)
-        (rows_of_tellings (option_map_or (λ key. Pushed key ∷ []) from []))
-    by None = tt
-    by (Some key) = (refl, tt)
-
-pushing_numbers : (count : ℕ) (p : Option Activation) → IfSome p (λ a. IfSome a.arc (IsArcOf count))
-    → AllByRecursion (λ (r : ArcRow). IsArcOf count r.arc) (rows_of_tellings (pushing p))
-pushing_numbers count None of = tt
-pushing_numbers count (Some a) of = by a.arc of
-  where
-    by : (from : Option ArcKey) → IfSome from (IsArcOf count) → AllByRecursion (λ (r : ArcRow). IsArcOf count r.arc)
-        (rows_of_tellings (option_map_or (λ key. Pushed key ∷ []) from []))
-    by None of_ = tt
-    by (Some key) of_ = (of_, tt)
+closed_whole : (total : List ℕ) → IsWhole total → (fs : List Frame) → StartWithin total fs
+    → AreClosed (λ (r : ArcRow). IsWhole r.cost) total fs
+closed_whole total whole [] all = tt
+closed_whole total whole (f ∷ fs) all = (
+  if_any (λ (key : ArcKey). IsWhole (difference_of_costs total f.start)) f.from
+      (λ key. difference_whole total f.start (all 0 f (omega arith)) ∙ whole),
+  closed_whole total whole fs (StartWithin-tail total (f ∷ fs) fs f refl all),
+)
 
 entered_with : (count : ℕ) (total : List ℕ) (p : Option Activation) (fs : List Frame)
     → IfSome p (λ a. IfSome a.arc (IsArcOf count)) → AllByRecursion (IsEnteredOf count) fs
@@ -227,7 +219,7 @@ module _ (callers : ℕ) (cs : List Context) (syms : SymbolMap) (since : List Ev
 
   stay_arced : map (from_of cs) stay ≡ ctx_arcs callers made.rest
   stay_arced =
-      drop_map (from_of cs) (drop_count syms e t.stack) t.frames ∙ ap (drop (drop_count syms e t.stack)) old.arced
+      sym (drop-map (from_of cs) (drop_count syms e t.stack) t.frames) ∙ ap (drop (drop_count syms e t.stack)) old.arced
       ∙ drop_arcs callers (drop_count syms e t.stack) t.stack ∙ ap (ctx_arcs callers) (kept_stack syms e t.stack)
 
   -- what may be pushed, the contexts with it, and its frame
@@ -318,20 +310,14 @@ module _ (callers : ℕ) (cs : List Context) (syms : SymbolMap) (since : List Ev
 
   news_whole : AllByRecursion (λ (r : ArcRow). IsWhole r.cost) news
   news_whole =
-      subst (AllByRecursion (λ (r : ArcRow). IsWhole r.cost))
-      (sym (rows_of_tellings-append (closings total goes) (pushing fresh)))
-      (all_append (λ (r : ArcRow). IsWhole r.cost) (rows_of_tellings (closings total goes)) (rows_of_tellings (pushing fresh))
-      (closings_whole total whole_now goes goes_start) (pushing_whole fresh))
+      told (λ (r : ArcRow). IsWhole r.cost) total goes fresh (closed_whole total whole_now goes goes_start)
+      (if_any (λ (a : Activation). IfSome a.arc (λ key. IsWhole no_cost)) fresh
+      (λ a. if_any (λ (key : ArcKey). IsWhole no_cost) a.arc (λ key. refl)))
 
   news_numbers : AllByRecursion (λ (r : ArcRow). IsArcOf (length ds) r.arc) news
   news_numbers =
-      subst (AllByRecursion (λ (r : ArcRow). IsArcOf (length ds) r.arc))
-      (sym (rows_of_tellings-append (closings total goes) (pushing fresh)))
-      (all_append (λ (r : ArcRow). IsArcOf (length ds) r.arc) (rows_of_tellings (closings total goes))
-      (rows_of_tellings (pushing fresh))
-      (closings_numbers (length ds) total goes
-      (all_take (IsEnteredOf (length ds)) (drop_count syms e t.stack) t.frames before.frame_numbers))
-      (pushing_numbers (length ds) fresh comes.range))
+      told (λ (r : ArcRow). IsArcOf (length ds) r.arc) total goes fresh
+      (all_take (IsEnteredOf (length ds)) (drop_count syms e t.stack) t.frames before.frame_numbers) comes.range
 
   -- where the event counts
   abbrev counted : Place
