@@ -1,5 +1,6 @@
 -- A run has no more steps than its budget.
 use Rattle.std.proofs.Common.{◌≡◌, ℕ, zero, suc, ◌+◌, ◌≤◌, List, [], ◌∷◌, ◌++◌, length, Option, None, Some, Result}
+use Rattle.std.specs.Option.{option_or}
 use Rattle.std.proofs.Common.{Ok, Err, refl, ap, sym, ◌∙◌, arith}
 use Rattle.std.specs.Prelude.{if◌then◌else◌}
 use Rattle.std.proofs.lemmas.Bool.{eq-eqb}
@@ -7,13 +8,14 @@ use Rattle.std.proofs.lemmas.List.{length-append}
 use Rattle.event_costs.specs.Runs.{Run}
 use Rattle.event_costs.specs.declared.outcome.End.{End}
 use Rattle.event_costs.specs.declared.outcome.End.TheVariants.{Budget}
-use Rattle.guest_sched.specs.Machine.{Machine, next}
-use Rattle.guest_sched.specs.Step.{MachineStep}
+use Rattle.guest_sched.specs.Engine.{Engine}
+use Rattle.guest_sched.specs.Step.{MachineStep, step}
 use Rattle.profile_run.specs.Program.{Program}
-use Rattle.profile_run.specs.Trace.{IsTraceOf, Position, Stop, RunStep, end_before, exit_end, frames_end, next_step, waiting_end}
-use Rattle.profile_run.specs.Trace.{or_else, budget_end, start, steps_of, run_step}
+use Rattle.profile_run.specs.Trace.{IsTraceOf, Position, Stop, RunStep, end_before, next_step}
+use Rattle.profile_run.specs.Trace.{start, steps_of, run_step}
 use Rattle.profile_run.proofs.TraceLemmas.{going-end, going-over, going-step}
 use Rattle.part_dump.specs.Steps.{live}
+use Rattle.profile_run.proofs.TraceLemmas.{budget_end, exit_end, frames_end, waiting_end}
 
 module _ (guest : Program) where
   abbrev Ended : Type 0
@@ -21,10 +23,10 @@ module _ (guest : Program) where
 
   -- where the budget is spent, an end stands
   or_spent : (o rest : Option End) (budget steps : ℕ) → steps ≡ budget
-      → (end : End) × (or_else o (or_else (budget_end budget steps) rest) ≡ Some end)
+      → (end : End) × (option_or o (option_or (budget_end budget steps) rest) ≡ Some end)
   or_spent (Some end) rest budget steps e = (end, refl)
   or_spent None rest budget steps e =
-      (Budget budget, ap (λ b. or_else (if b then Some (Budget budget) else None) rest) (eq-eqb steps budget e))
+      (Budget budget, ap (λ b. option_or (if b then Some (Budget budget) else None) rest) (eq-eqb steps budget e))
 
   no_move : (x : RunStep) (q : Position) (stop : Stop) → ◌≡◌ {A = Ended} (Ok (x, q)) (Err stop) → ⊥
   no_move x q stop is = cc
@@ -34,8 +36,8 @@ module _ (guest : Program) where
       → ⊥
   unspent p x q made e =
       let over =
-      or_spent (exit_end p.0.engine.exit)
-      (or_else (frames_end (live guest.syms (steps_of p.1))) (waiting_end p.0.engine.run_queue.ready)) guest.options.budget
+      or_spent (exit_end p.0.exit)
+      (option_or (frames_end (live guest.syms (steps_of p.1))) (waiting_end p.0.run_queue.ready)) guest.options.budget
       (length p.1) e in
       no_move x q (record { end = over.0; tried = None }) (sym made ∙ going-over guest p over.0 over.1)
 
@@ -50,7 +52,7 @@ module _ (guest : Program) where
       same : (y : RunStep) (r : Position) → ◌≡◌ {A = Ended} (Ok (x, q)) (Ok (y, r)) → q ≡ r
       same y r is = ap position is
 
-      stepped : end_before guest p.0 p.1 ≡ None → (told : Result (MachineStep × Machine) End) → next p.0 ≡ told
+      stepped : end_before guest p.0 p.1 ≡ None → (told : Result (MachineStep × Engine) End) → step p.0 ≡ told
           → length q.1 ≡ length p.1 + 1
       stepped none (Err end) is = absurd (no_move x q _ (sym made ∙ going-end guest p end none is))
       stepped none (Ok told) is =
@@ -61,7 +63,7 @@ module _ (guest : Program) where
 
       looked : (o : Option End) → end_before guest p.0 p.1 ≡ o → length q.1 ≡ length p.1 + 1
       looked (Some end) is = absurd (no_move x q _ (sym made ∙ going-over guest p end is))
-      looked None is = stepped is (next p.0) refl
+      looked None is = stepped is (step p.0) refl
 
   few_from : (n : ℕ) (p : Position) (xs : List RunStep) (q : Position) → length p.1 + n ≡ guest.options.budget
       → Run (next_step guest) p xs q → length xs ≤ n

@@ -57,8 +57,7 @@ use Rattle.profile_cli.specs.ByCalls.{AreShown, GivesBack, IsFed, IsHeadlineByCa
 use Rattle.profile_cli.specs.Calls.{DoesAsked, DoesReport, MakesCalls}
 use Rattle.command_steps.specs.Stages.{final_status, AreWritesOrWants, Gives, Goes, LoadsIf, LoadsTexts, ReadsAll, Reports}
 use Rattle.command_steps.specs.Stages.{Stops, Then, asking, read_as}
-use Rattle.command_steps.specs.Loading.{input_limit}
-use Rattle.profile_cli.specs.Order.{program_limit}
+use Rattle.outside.specs.Limits.{text_limit, file_limit}
 use Rattle.profile_cli.specs.Program.{IsMapOf, guest_of}
 use Rattle.command_steps.specs.Saying.{after_line}
 use Rattle.profile_cli.specs.Stages as stage
@@ -268,12 +267,12 @@ record Began (parts : Program → Writing) (job : Job) (log : Log) (run : RunEnd
   fed : IsFed job.input input feeding
   running : Log
   on : RunsOn parts job program input running run
-  whole : log ≡ done_then (asking (Loaded (program_of job.args) program_limit (Ok program) ∷ feeding)) running
+  whole : log ≡ done_then (asking (Loaded (program_of job.args) file_limit (Ok program) ∷ feeding)) running
 
 feeds : (name : Option (List ℕ)) (log : Log) (input : List ℕ) → LoadsIf name log (Ok input)
     → (feeding : List Call) × IsFed name input feeding × (log ≡ asking feeding)
 feeds None log input given = ([], (in_ok input [] given.comes, refl), given.nothing)
-feeds (Some name) log input loaded = (Loaded name input_limit (Ok input) ∷ [], refl, loaded)
+feeds (Some name) log input loaded = (Loaded name text_limit (Ok input) ∷ [], refl, loaded)
 
 began : (parts : Program → Writing) (job : Job) (log : Log) (ran : Program × RunEnd)
     → LoadsAndRuns parts job log (Ok ran) → Began parts job log ran.1
@@ -421,7 +420,7 @@ module _ (job : Job) (positions : Positions) (view : View) (within : IsJob job) 
   put = (parts_asked (watching_at positions) guest).whole (steps_of b.on.trace) b.on.stop.tried
 
   abbrev opening : List Call
-  opening = Loaded (program_of job.args) program_limit (Ok b.program) ∷ b.feeding
+  opening = Loaded (program_of job.args) file_limit (Ok b.program) ∷ b.feeding
 
   abbrev first : Contents
   first = no_rows (events_shown job.branches event_names)

@@ -30,11 +30,12 @@ use Rattle.command_steps.specs.Annotate.{Annotates, annotating}
 use Rattle.command_steps.specs.Certain.{Decides, IsCalm}
 use Rattle.profile_cli.specs.Complete.{Ends, IsCertain, IsComplete, faultless_course, faultless_load_if}
 use Rattle.profile_cli.specs.Course.{Course, no_course}
-use Rattle.command_steps.specs.Loading.{IsLoadIf, input_fault, input_limit, load_fault}
+use Rattle.outside.specs.Limits.{text_limit, file_limit}
+use Rattle.command_steps.specs.Loading.{IsLoadIf, input_fault, load_fault}
 use Rattle.command_steps.specs.Gates.{Gate, Outcome, check, first_stop, or_next, outcome, gates_outcome}
 use Rattle.profile_cli.specs.Headline.{IsExactReport}
 use Rattle.profile_cli.specs.Order.{arguments_fault, elf_fault, elf_status, last_status, loading, pages_fault}
-use Rattle.profile_cli.specs.Order.{program_limit, reading, run_gate, work}
+use Rattle.profile_cli.specs.Order.{reading, run_gate, work}
 use Rattle.profile_cli.specs.OwnReport.{IsReported, reporting_own}
 use Rattle.profile_cli.specs.Reply.{IsRun, IsWaitedIn, Replies}
 use Rattle.command_steps.specs.Saying.{Says, after_line}
@@ -56,14 +57,14 @@ use Rattle.byte_text.specs.Memory.{memory}
 -- the input is what the folder holds, where it has a name, or memory was wanting
 held_input : (told : Option Files) (files : Files) (name : Option (List ℕ)) (before now : ℕ) (found : Load)
     → told ≡ Some files
-    → (Rose before now → ⊥) → IsLoadIf told name input_limit before now found
-    → (found ≡ faultless_load_if files name input_limit) ⊎ (input_fault name found ≡ Some (OutOfMemory memory))
+    → (Rose before now → ⊥) → IsLoadIf told name text_limit before now found
+    → (found ≡ faultless_load_if files name text_limit) ⊎ (input_fault name found ≡ Some (OutOfMemory memory))
 held_input told files None before now found is calm loads = inl loads
 held_input told files (Some name) before now found is calm loads =
-    by (held_load told files name input_limit before now found is calm loads)
+    by (held_load told files name text_limit before now found is calm loads)
   where
-    by : (found ≡ faultless_load (file files name) input_limit) ⊎ (found ≡ Err (load.OutOfMemory memory))
-        → (found ≡ faultless_load_if files (Some name) input_limit) ⊎ (input_fault (Some name) found ≡ Some (OutOfMemory memory))
+    by : (found ≡ faultless_load (file files name) text_limit) ⊎ (found ≡ Err (load.OutOfMemory memory))
+        → (found ≡ faultless_load_if files (Some name) text_limit) ⊎ (input_fault (Some name) found ≡ Some (OutOfMemory memory))
     by (inl same) = inl same
     by (inr none) = inr (ap (load_fault name) none)
 
@@ -203,25 +204,25 @@ module _ {parts : Program → Writing} (old new : Outside) (job : Job) (gates : 
         subst (λ o. Decides o otherwise status) (sym other) (early s stop)
 
     -- the input was not loaded for want of memory, or the work didn't come to it
-    without_input : met_then.program ≡ faultless_load (file files (program_of job.args)) program_limit
+    without_input : met_then.program ≡ faultless_load (file files (program_of job.args)) file_limit
         → input_fault job.input met_then.input ≡ Some (OutOfMemory memory) → Decided
     without_input program wants =
         by (third_stops (load_fault (program_of job.args) met_then.program) (elf_fault (bytes_of met_then.program))
         (input_fault job.input met_then.input) (arguments_fault job.args)
         (pages_fault (image_of (bytes_of met_then.program)))
-        (input_fault job.input (faultless_load_if files job.input input_limit))
+        (input_fault job.input (faultless_load_if files job.input text_limit))
         (OutOfMemory memory) wants)
       where
         by : (first_stop (loading job met_then) ≡ Some (OutOfMemory memory))
             ⊎ ((earlier : Status) × (first_stop (loading job met_then) ≡ Some earlier)
-            × (first_stop (loading job (record met_then { input = faultless_load_if files job.input input_limit }))
+            × (first_stop (loading job (record met_then { input = faultless_load_if files job.input text_limit }))
             ≡ Some earlier))
             → Decided
         by (inl stop) = absurd (reply.known (early (OutOfMemory memory) stop))
         by (inr (earlier, stop, other)) =
             both_stop earlier stop
             (subst (λ p. first_stop (loading job
-            (record no_course { program = p; input = faultless_load_if files job.input input_limit })) ≡ Some earlier)
+            (record no_course { program = p; input = faultless_load_if files job.input text_limit })) ≡ Some earlier)
             program other)
 
     -- the program was not loaded for want of memory
@@ -231,8 +232,8 @@ module _ {parts : Program → Writing} (old new : Outside) (job : Job) (gates : 
         (ap (λ p. first_stop (loading job (record no_course { program = p; input = met_then.input }))) none)))
 
     -- what was met in the loading is what the folder holds
-    as_held : met_then.program ≡ faultless_load (file files (program_of job.args)) program_limit
-        → met_then.input ≡ faultless_load_if files job.input input_limit
+    as_held : met_then.program ≡ faultless_load (file files (program_of job.args)) file_limit
+        → met_then.input ≡ faultless_load_if files job.input text_limit
         → ((first_stop (loading job met_then) ≡ None) → met_then.program ≡ over.program → met_then.input ≡ over.input
         → reply.found ≡ behind.status → Leaves old behind.output (before_line new reply.err) → otherwise)
         → Decided
@@ -254,13 +255,13 @@ module _ {parts : Program → Writing} (old new : Outside) (job : Job) (gates : 
         → reply.found ≡ behind.status → Leaves old behind.output (before_line new reply.err) → otherwise)
         → Decided
     decided told calm on =
-        by (held_load old.files files (program_of job.args) program_limit old.load_faults new.load_faults
+        by (held_load old.files files (program_of job.args) file_limit old.load_faults new.load_faults
         met_then.program told calm reply.is.program)
         (held_input old.files files job.input old.load_faults new.load_faults met_then.input told calm reply.is.input)
       where
-        by : (met_then.program ≡ faultless_load (file files (program_of job.args)) program_limit)
+        by : (met_then.program ≡ faultless_load (file files (program_of job.args)) file_limit)
             ⊎ (met_then.program ≡ Err (load.OutOfMemory memory))
-            → (met_then.input ≡ faultless_load_if files job.input input_limit)
+            → (met_then.input ≡ faultless_load_if files job.input text_limit)
             ⊎ (input_fault job.input met_then.input ≡ Some (OutOfMemory memory))
             → Decided
         by (inl program) (inl input) = as_held program input on

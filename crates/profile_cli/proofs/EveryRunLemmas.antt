@@ -26,11 +26,12 @@ use Rattle.run_laws.proofs.AddrFoldableLemmas as addresses
 use Rattle.profile_cli.specs.Addresses.{IsAddresses}
 use Rattle.profile_cli.specs.Contexts.{IsContexts}
 use Rattle.profile_cli.specs.Course.{Course, RunOutcome}
-use Rattle.command_steps.specs.Loading.{IsLoadIf, input_fault, input_limit, load_fault}
+use Rattle.outside.specs.Limits.{text_limit, file_limit}
+use Rattle.command_steps.specs.Loading.{IsLoadIf, input_fault, load_fault}
 use Rattle.command_steps.specs.Gates.{Outcome, at_gate, gates_outcome}
 use Rattle.profile_cli.specs.HasRun.{AsksToRun, HasRun, OfRuns, RunFiles, RunOf}
 use Rattle.command_status.specs.Numbers.{is_short}
-use Rattle.profile_cli.specs.Order.{elf_fault, fault_status, last_status, program_limit, run_fault, run_gate}
+use Rattle.profile_cli.specs.Order.{elf_fault, fault_status, last_status, run_fault, run_gate}
 use Rattle.profile_cli.specs.Order.{run_status}
 use Rattle.profile_cli.specs.OwnRows.{IsOwnRows}
 use Rattle.profile_cli.specs.Program.{IsMapOf}
@@ -156,10 +157,10 @@ run_or_short old new job watching status within replies long =
         inr (record {
           run = record {
             program = bytes_of met.program;
-            loaded = subst (IsLoad old.files (program_of job.args) program_limit old.load_faults mid.load_faults)
+            loaded = subst (IsLoad old.files (program_of job.args) file_limit old.load_faults mid.load_faults)
                 (loaded_is (program_of job.args) met.program program_none) replies.works.met.0.program;
             input = bytes_of met.input;
-            fed = subst (IsLoadIf old.files job.input input_limit old.load_faults mid.load_faults)
+            fed = subst (IsLoadIf old.files job.input text_limit old.load_faults mid.load_faults)
                 (fed_is old mid job.input met.input replies.works.met.0.input input_none) replies.works.met.0.input;
             run = w.run;
             status_is = said.0 ∙ w.status_is;

@@ -21,7 +21,8 @@ use Rattle.elf_read.specs.Image.{Image}
 use Rattle.event_costs.specs.Keys.{Place}
 use Rattle.event_costs.specs.declared.numbers.FuncId.{FuncId}
 use Rattle.report_laws.proofs.Others.{Contains-cons, Contains-first, first_or_rest, one_list, rises_from, then_equal}
-use Rattle.sym_map.specs.Places.{Identity, IsEntryOf, Location, unknown_function, unknown_name}
+use Rattle.byte_text.specs.Names.{unknown as unknown_name}
+use Rattle.sym_map.specs.Places.{Identity, IsEntryOf, Location, unknown_function}
 use Rattle.sym_map.specs.SymbolMap.{IsFunc, IsSound, SymbolMap, by_identity, entry_of, identities}
 use Rattle.sym_map.specs.SymbolMap.{identity_in, identity_of, place_of}
 use Rattle.run_laws.specs.Maps.{TellTheSame}

@@ -6,7 +6,8 @@ use Rattle.std.specs.Option.{option_map}
 use Rattle.outside.specs.Files.{Files}
 use Rattle.outside.specs.Outside.{Outside, with_files}
 use Rattle.profile_files.specs.Loads.{IsLoad}
-use Rattle.command_steps.specs.Loading.{IsLoadIf, input_limit}
+use Rattle.outside.specs.Limits.{text_limit, file_limit}
+use Rattle.command_steps.specs.Loading.{IsLoadIf}
 use Rattle.command_status.specs.Ends.{end_status}
 use Rattle.command_status.specs.declared.status.Status.{Status}
 use Rattle.elf_read.specs.Image.{image_of}
@@ -24,7 +25,6 @@ use Rattle.command_words.specs.Request.{AddressAndLine, Addresses, Contexts, Job
 use Rattle.command_steps.specs.Annotate.{IsSortPlace, report_options}
 use Rattle.profile_cli.specs.HasRun.{HasRun, RunFiles, RunOf, run_files}
 use Rattle.profile_cli.specs.Headline.{ReportOn}
-use Rattle.profile_cli.specs.Order.{program_limit}
 use Rattle.profile_cli.specs.Words.{program_of}
 use Rattle.profile_cli.specs.Program.{IsMapOf, guest_of}
 use Rattle.profile_cli.specs.Watching.{files_asked, files_at, output_asked, waits_file}
@@ -146,16 +146,16 @@ pub loads_same : (old other : Outside) (contents : Files) (job : Job) (put more 
     → old.files ≡ Some contents → other.files ≡ Some contents
     → (first.program ≡ second.program) × (first.input ≡ second.input)
 loads_same old other contents job put more status end new left first second told also = (
-  one_load contents (program_of job.args) program_limit old.load_faults new.load_faults other.load_faults
+  one_load contents (program_of job.args) file_limit old.load_faults new.load_faults other.load_faults
       left.load_faults first.program second.program
-      (subst (λ files. IsLoad files (program_of job.args) program_limit old.load_faults new.load_faults
+      (subst (λ files. IsLoad files (program_of job.args) file_limit old.load_faults new.load_faults
       (Ok first.program)) told first.loaded)
-      (subst (λ files. IsLoad files (program_of job.args) program_limit other.load_faults left.load_faults
+      (subst (λ files. IsLoad files (program_of job.args) file_limit other.load_faults left.load_faults
       (Ok second.program)) also second.loaded),
-  one_input contents job.input input_limit old.load_faults new.load_faults other.load_faults left.load_faults first.input
+  one_input contents job.input text_limit old.load_faults new.load_faults other.load_faults left.load_faults first.input
       second.input
-      (subst (λ files. IsLoadIf files job.input input_limit old.load_faults new.load_faults (Ok first.input)) told first.fed)
-      (subst (λ files. IsLoadIf files job.input input_limit other.load_faults left.load_faults (Ok second.input)) also
+      (subst (λ files. IsLoadIf files job.input text_limit old.load_faults new.load_faults (Ok first.input)) told first.fed)
+      (subst (λ files. IsLoadIf files job.input text_limit other.load_faults left.load_faults (Ok second.input)) also
       second.fed),
 )
 

@@ -27,8 +27,7 @@ use Rattle.command_steps.specs.Annotate.{IsShown, IsTaken, ReportOutcome, report
 use Rattle.command_steps.specs.Stages.{final_status}
 use Rattle.profile_cli.specs.Course.{Course}
 use Rattle.command_steps.specs.Gates.{Outcome, at_gate, check, gates_outcome}
-use Rattle.command_steps.specs.Loading.{input_limit}
-use Rattle.profile_cli.specs.Order.{program_limit}
+use Rattle.outside.specs.Limits.{text_limit, file_limit}
 use Rattle.profile_cli.specs.OwnReport.{parts_to_read, once_put, reporting_own}
 use Rattle.profile_cli.specs.Reply.{IsRun, Works}
 use Rattle.profile_cli.specs.Watching.{parts_asked}
@@ -88,9 +87,9 @@ module _ (old mid : Outside) (job : Job) (positions : Positions) (view : View) (
   still_run : (new : Outside) (read : Result Contents ReadFault) (shown : Option ReportOutcome)
       → mid.load_faults ≤ new.load_faults → IsRun (parts_asked (watching_at positions)) old job (met_with read shown) new
   still_run new read shown late = record {
-    program = IsLoadIf-within old.files (Some (program_of job.args)) program_limit old.load_faults old.load_faults
+    program = IsLoadIf-within old.files (Some (program_of job.args)) file_limit old.load_faults old.load_faults
         mid.load_faults new.load_faults (Ok ran.program) (omega arith) late ran.load;
-    input = IsLoadIf-within old.files job.input input_limit old.load_faults old.load_faults mid.load_faults
+    input = IsLoadIf-within old.files job.input text_limit old.load_faults old.load_faults mid.load_faults
         new.load_faults (Ok ran.input) (omega arith) late ran.fed;
     run = (ran.symbols, ran.sound, (ran.fits, ran.whole));
   }

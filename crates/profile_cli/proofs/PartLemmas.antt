@@ -19,7 +19,8 @@ use Rattle.command_status.specs.declared.status.Status.{Status}
 use Rattle.command_words.specs.Request.{Job}
 use Rattle.command_words.specs.Within.{IsJob}
 use Rattle.profile_cli.specs.Course.{Course, RunOutcome}
-use Rattle.profile_cli.specs.Order.{elf_fault, program_limit}
+use Rattle.outside.specs.Limits.{file_limit}
+use Rattle.profile_cli.specs.Order.{elf_fault}
 use Rattle.profile_cli.specs.Words.{program_of}
 use Rattle.profile_cli.specs.Program.{guest_of}
 use Rattle.profile_cli.specs.Reply.{IsRan}
@@ -103,7 +104,7 @@ module _ {W : Type 0} (meaning : Meaning W) (first : W) (parts : Program → Wri
       → Did (LoadsAndRuns parts job) old result new
   told_on result did = record {
     log = did.log;
-    stage = then_on (Loads (program_of job.args) program_limit) (accepts (watched_parts meaning first)) (accepts parts)
+    stage = then_on (Loads (program_of job.args) file_limit) (accepts (watched_parts meaning first)) (accepts parts)
         (λ program asked loaded. then_on (Quiet (Passes (elf_fault program)))
         (λ passed. feeds (watched_parts meaning first) program) (λ passed. feeds parts program)
         (λ passed none accepted. then_on (LoadsIf job.input) (stage.Runs (watched_parts meaning first) job program)

@@ -129,7 +129,7 @@ module _ (old mid : Outside) (size : ℕ) (contents : Files) (told : old.files �
       parts = subst (λ (o : Output). ArePartsOf demo_job.base o.files run.parts) ran.output ran.parts
 
       abbrev shown : End → List ℕ
-      shown stop = summary_of_trace size (length file) ran.trace ran.is.last.0.engine.kernel.guest.made (length put) stop
+      shown stop = summary_of_trace size (length file) ran.trace ran.is.last.0.kernel.guest.made (length put) stop
 
       -- what is told of the run is told of its trace
       shown_is : (code : ℕ) (totals : List ℕ) → run.end ≡ end.Exited code → totals ≡ totals_of ran.trace

@@ -44,11 +44,12 @@ use Rattle.command_steps.specs.Annotate.{IsMade, IsShown, IsTaken, read_fault, r
 use Rattle.command_steps.specs.Annotate.{report_options, reporting, text_of, write_fault, AreTextsFor, IsSortPlace}
 use Rattle.command_steps.specs.Annotate.{ReportOutcome}
 use Rattle.profile_cli.specs.Course.{Course, RunOutcome}
-use Rattle.command_steps.specs.Loading.{IsLoadIf, input_fault, input_limit, load_fault}
+use Rattle.outside.specs.Limits.{text_limit, file_limit}
+use Rattle.command_steps.specs.Loading.{IsLoadIf, input_fault, load_fault}
 use Rattle.command_steps.specs.Gates.{Outcome, at_gate, gates_outcome}
 use Rattle.profile_cli.specs.HasRun.{HasRun, RunFiles}
 use Rattle.profile_cli.specs.Headline.{IsExactReport, ReportOn}
-use Rattle.profile_cli.specs.Order.{elf_fault, elf_status, fault_status, last_status, program_limit, run_fault}
+use Rattle.profile_cli.specs.Order.{elf_fault, elf_status, fault_status, last_status, run_fault}
 use Rattle.profile_cli.specs.Order.{run_gate, run_status}
 use Rattle.profile_cli.specs.OwnReport.{IsReported, parts_to_read, once_put, reporting_own}
 use Rattle.profile_cli.specs.Program.{IsMapOf, guest_of}
@@ -111,7 +112,7 @@ loaded_is name (Err (load.TooLong len)) none = absurd (cc)
 loaded_is name (Err (load.OutOfMemory _)) none = absurd (cc)
 
 pub fed_is : (old mid : Outside) (name : Option (List ℕ)) (l : Load)
-    → IsLoadIf old.files name input_limit old.load_faults mid.load_faults l → input_fault name l ≡ None
+    → IsLoadIf old.files name text_limit old.load_faults mid.load_faults l → input_fault name l ≡ None
     → l ≡ Ok (bytes_of l)
 fed_is old mid None l is none = is ∙ ap (λ (k : Load). let o : Load = Ok (bytes_of k) in o) (sym is)
 fed_is old mid (Some name) l is none = loaded_is name l none
@@ -138,8 +139,8 @@ module _ (old : Outside) (job : Job) (positions : Positions) (view : View) (cont
   back = own_read positions
 
   module _ (program input : List ℕ)
-      (loaded : IsLoad old.files (program_of job.args) program_limit old.load_faults mid.load_faults (Ok program))
-      (fed : IsLoadIf old.files job.input input_limit old.load_faults mid.load_faults (Ok input))
+      (loaded : IsLoad old.files (program_of job.args) file_limit old.load_faults mid.load_faults (Ok program))
+      (fed : IsLoadIf old.files job.input text_limit old.load_faults mid.load_faults (Ok input))
       (syms : SymbolMap) (symbols : IsMapOf (image_of program) syms) (ended : RunEnd) (output : Output) where
     abbrev guest : Program
     guest = guest_of job (image_of program) input syms
@@ -276,8 +277,8 @@ module _ (old : Outside) (job : Job) (positions : Positions) (view : View) (cont
 
   -- the guest ran, or was refused
   pub ran_on : (program input : List ℕ)
-      (loaded : IsLoad old.files (program_of job.args) program_limit old.load_faults mid.load_faults (Ok program))
-      (fed : IsLoadIf old.files job.input input_limit old.load_faults mid.load_faults (Ok input))
+      (loaded : IsLoad old.files (program_of job.args) file_limit old.load_faults mid.load_faults (Ok program))
+      (fed : IsLoadIf old.files job.input text_limit old.load_faults mid.load_faults (Ok input))
       → refusal program ≡ None
       → ((syms : SymbolMap) (refused : RunFault) (output : Output)
       → Runs (parts (guest_of job (image_of program) input syms)) (guest_of job (image_of program) input syms) old
@@ -326,9 +327,9 @@ module _ (old : Outside) (job : Job) (positions : Positions) (view : View) (cont
       by None met_ran known at_run = inl (subst Stops (sym at_run.status_is) wants)
       by (Some ran) met_ran known at_run =
           ran_on (bytes_of met.program) (bytes_of met.input)
-          (subst (IsLoad old.files (program_of job.args) program_limit old.load_faults mid.load_faults)
+          (subst (IsLoad old.files (program_of job.args) file_limit old.load_faults mid.load_faults)
           (loaded_is (program_of job.args) met.program program_none) is.program)
-          (subst (IsLoadIf old.files job.input input_limit old.load_faults mid.load_faults)
+          (subst (IsLoadIf old.files job.input text_limit old.load_faults mid.load_faults)
           (fed_is old mid job.input met.input is.input input_none) is.input)
           (accepted_is (refusal (bytes_of met.program)) elf_none)
           cut ran.syms met_ran.0 met_ran.1 ran.stop ran.output

@@ -24,11 +24,12 @@ use Rattle.command_status.specs.declared.status.Status.TheVariants.{OutFault, Ou
 use Rattle.command_words.specs.Request.{Request, Demo, Job, Positions, Report, View}
 use Rattle.command_words.specs.Within.{IsJob, IsWithin}
 use Rattle.profile_cli.specs.Course.{Course}
-use Rattle.command_steps.specs.Loading.{IsLoadIf, input_fault, input_limit, load_fault}
+use Rattle.outside.specs.Limits.{text_limit, file_limit}
+use Rattle.command_steps.specs.Loading.{IsLoadIf, input_fault, load_fault}
 use Rattle.profile_cli.specs.Demo.{demo_job}
 use Rattle.profile_cli.specs.ExactDemo.{IsExactDemo, demo_status}
 use Rattle.command_steps.specs.Gates.{check, gates_outcome}
-use Rattle.profile_cli.specs.Order.{behind_demo, elf_status, fault_status, program_limit, run_gate}
+use Rattle.profile_cli.specs.Order.{behind_demo, elf_status, fault_status, run_gate}
 use Rattle.profile_cli.specs.OwnParts.{IsNotOfParts, IsOfJob, IsReadable}
 use Rattle.profile_cli.specs.OwnReport.{reporting_own}
 use Rattle.profile_cli.specs.Reply.{Replies}
@@ -77,7 +78,7 @@ module _ (old new : Outside) (job : Job) where
   StopsJob = Stops (IsOfJob old job new)
 
   program_stops : (found : Load)
-      → IsLoad old.files (program_of job.args) program_limit old.load_faults new.load_faults found
+      → IsLoad old.files (program_of job.args) file_limit old.load_faults new.load_faults found
       → StopsSo StopsJob (load_fault (program_of job.args) found)
   program_stops (Ok bytes) is = none_stops StopsJob
   program_stops (Err load.Failed) is = some_stops StopsJob _ tt
@@ -85,7 +86,7 @@ module _ (old new : Outside) (job : Job) where
   program_stops (Err (load.OutOfMemory _)) is = some_stops StopsJob _ tt
 
   input_stops : (name : Option (List ℕ)) → job.input ≡ name → (found : Load)
-      → IsLoadIf old.files name input_limit old.load_faults new.load_faults found
+      → IsLoadIf old.files name text_limit old.load_faults new.load_faults found
       → StopsSo StopsJob (input_fault name found)
   input_stops None named found is = none_stops StopsJob
   input_stops (Some name) named (Ok bytes) is = none_stops StopsJob
@@ -94,8 +95,8 @@ module _ (old new : Outside) (job : Job) where
   input_stops (Some name) named (Err (load.OutOfMemory _)) is = some_stops StopsJob _ tt
 
   loading_stops : (met : Course)
-      → IsLoad old.files (program_of job.args) program_limit old.load_faults new.load_faults met.program
-      → IsLoadIf old.files job.input input_limit old.load_faults new.load_faults met.input
+      → IsLoad old.files (program_of job.args) file_limit old.load_faults new.load_faults met.program
+      → IsLoadIf old.files job.input text_limit old.load_faults new.load_faults met.input
       → LoadingStops StopsJob job met
   loading_stops met program input = record {
     wanting = tt;

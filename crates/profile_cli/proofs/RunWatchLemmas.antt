@@ -44,7 +44,8 @@ no_map = record {
   functions = [];
   files = [];
   entries = [];
-  ranges = record { symbols = []; lines = []; by_address = false };
+  places = [];
+  begins = [];
   unknown = record { func = record { 0 = 0 }; file = record { 0 = 0 }; line = 0 };
 }
 

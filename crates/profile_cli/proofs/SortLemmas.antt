@@ -23,8 +23,9 @@ use Rattle.command_status.specs.declared.status.Status.{Status}
 use Rattle.command_status.specs.declared.status.Status.TheVariants.{Done, OutOfMemory, SumLimit, Usage}
 use Rattle.command_words.specs.Request.{Job, View}
 use Rattle.command_steps.specs.Annotate.{IsMade, MakesReport, SettlesOptions, report_fault, sort_fault, write_fault}
-use Rattle.command_steps.specs.Loading.{HasStatus, input_limit, load_fault}
-use Rattle.profile_cli.specs.Order.{elf_fault, elf_status, fault_status, program_limit}
+use Rattle.outside.specs.Limits.{text_limit, file_limit}
+use Rattle.command_steps.specs.Loading.{HasStatus, load_fault}
+use Rattle.profile_cli.specs.Order.{elf_fault, elf_status, fault_status}
 use Rattle.profile_cli.specs.Program.{guest_of}
 use Rattle.profile_cli.specs.Stages as stage
 use Rattle.command_steps.specs.Stages.{AreWritesOrWants, Gives, Goes, Loads, LoadsIf, LoadsTexts, Passes, Quiet}
@@ -86,7 +87,7 @@ module _ (Such : Status → Log → Type 0) (sort : IsSort Such) where
 
   input_such : (name : Option (List ℕ)) → AllSuch Such (LoadsIf name)
   input_such None = gives_such []
-  input_such (Some name) = loads_such name input_limit
+  input_such (Some name) = loads_such name text_limit
 
   elf_such : (bytes : List ℕ) → AllSuch Such (Quiet (Passes (elf_fault bytes)))
   elf_such bytes log s passes = has_such (elf_fault bytes) log (by (refusal bytes)) s passes.comes
@@ -113,7 +114,7 @@ module _ (Such : Status → Log → Type 0) (sort : IsSort Such) where
 
   pub job_such : (parts : Program → Writing) (job : Job) → AllSuch Such (LoadsAndRuns parts job)
   job_such parts job =
-      then_such _ _ (loads_such (program_of job.args) program_limit) (λ program.
+      then_such _ _ (loads_such (program_of job.args) file_limit) (λ program.
       then_such _ _ (elf_such program) (λ accepted.
       then_such _ _ (input_such job.input) (λ input. run_such parts job program input)))
 

@@ -1,5 +1,8 @@
 -- The map of a program's symbols.
 use Rattle.std.proofs.Common.{◌≡◌, ℕ, ◌^◌, ◌<◌, ◌↔◌, Contains, IfOk, List, Result, Ok, Err, codes, ap, subst, ◌∙◌}
+use Rattle.std.specs.Cmp.Lexicographic.{slice_cmp}
+use Rattle.std.specs.List.Sorted.{IsStrictlySortedBy}
+use Rattle.std.specs.Ordering.{nat_cmp}
 use Rattle.byte_text.specs.declared.memory.OutOfMemory.{OutOfMemory}
 use Rattle.event_costs.specs.declared.numbers.FuncId.{FuncId}
 use Rattle.elf_read.specs.Image.{Image, content_of}
@@ -7,7 +10,7 @@ use Rattle.dwarf_line.specs.LineRow.{LineRow}
 use Rattle.dwarf_line.specs.Program.{SequenceOf}
 use Rattle.dwarf_line.specs.Unit.{line_sequences}
 use Rattle.sym_map.specs.Places.{Identity, IsEntryOf, files_of, functions_of, is_entry, location_at}
-use Rattle.sym_map.specs.SymbolMap.{IsFunc, RiseByBytes, RiseByIdentity, SymbolMap, entry_of, identities, identity_of}
+use Rattle.sym_map.specs.SymbolMap.{IsFunc, SymbolMap, by_identity, entry_of, identities, identity_of}
 use Rattle.sym_map.specs.SymbolMap.{is_entry_at, location_of, place_of}
 use Rattle.profile_cli.specs.Program.{IsMapOf, lines_of}
 
@@ -34,9 +37,9 @@ pub IsMapOf-built : (image : Image) (lines : List (SequenceOf LineRow)) (result 
     → IsEntryOf image lines (identity_of m func) (entry_of m func))
     → IfOk result (λ m. (identity : Identity)
     → Contains (identities m) identity ↔ Contains (functions_of image lines) identity)
-    → IfOk result (λ m. RiseByIdentity (identities m))
+    → IfOk result (λ m. IsStrictlySortedBy by_identity (identities m))
     → IfOk result (λ m. (name : List ℕ) → Contains m.files name ↔ Contains (files_of lines) name)
-    → IfOk result (λ m. RiseByBytes m.files) → IfOk result (IsMapOf image)
+    → IfOk result (λ m. IsStrictlySortedBy (slice_cmp nat_cmp) m.files) → IfOk result (IsMapOf image)
 IsMapOf-built image lines (Ok m) is places entry_addresses entries functions functions_rise files files_rise = record {
   places = subst (λ l. (address : ℕ) → address < 2 ^ 32
       → location_of m (place_of m address) ≡ location_at image l address) is places;

@@ -48,9 +48,10 @@ use Rattle.command_words.specs.Within.{IsJob}
 use Rattle.profile_files.specs.Loads.{IsLoad}
 use Rattle.command_steps.specs.Stages.{final_status}
 use Rattle.profile_cli.specs.Course.{Course, WaitsOutcome}
-use Rattle.command_steps.specs.Loading.{IsLoadIf, HasStatus, input_limit}
+use Rattle.outside.specs.Limits.{text_limit, file_limit}
+use Rattle.command_steps.specs.Loading.{IsLoadIf, HasStatus}
 use Rattle.command_steps.specs.Gates.{Gate, Outcome, at_gate, or_next, gates_outcome}
-use Rattle.profile_cli.specs.Order.{loading, program_limit, reading, run_gate}
+use Rattle.profile_cli.specs.Order.{loading, reading, run_gate}
 use Rattle.profile_cli.specs.Reply.{Works}
 use Rattle.profile_cli.specs.Watching.{IsPut, IsWaited, put_fault, put_output, put_status, waits_gate, waits_name}
 use Rattle.profile_cli.specs.Words.{program_of}
@@ -329,9 +330,9 @@ module _ (old mid new : Outside) (job : Job) (run : RunEnd) (first last : WaitSt
     course = met;
     met = (
       record {
-        program = subst (λ n. IsLoad old.files (program_of job.args) program_limit old.load_faults n (Ok ran.program))
+        program = subst (λ n. IsLoad old.files (program_of job.args) file_limit old.load_faults n (Ok ran.program))
             (sym loads) ran.load;
-        input = subst (λ n. IsLoadIf old.files job.input input_limit old.load_faults n (Ok ran.input)) (sym loads)
+        input = subst (λ n. IsLoadIf old.files job.input text_limit old.load_faults n (Ok ran.input)) (sym loads)
             ran.fed;
         run = (ran.symbols, ran.sound, (ran.fits, ran.whole));
       },

@@ -27,11 +27,12 @@ use Rattle.profile_files.specs.Joined.{no_rows}
 use Rattle.profile_files.specs.declared.fault.ReadFault.TheVariants as read
 use Rattle.profile_cli.proofs.Others.{IsReading-wanting}
 use Rattle.profile_cli.specs.Course.{Course, RunOutcome, no_course}
-use Rattle.command_steps.specs.Loading.{IsLoadIf, HasStatus, input_fault, input_limit, load_fault, LoadsFile}
+use Rattle.outside.specs.Limits.{text_limit, file_limit}
+use Rattle.command_steps.specs.Loading.{IsLoadIf, HasStatus, input_fault, load_fault, LoadsFile}
 use Rattle.command_steps.specs.Loading.{LoadsInput}
 use Rattle.command_steps.specs.Gates.{Gate, Outcome, at_gate, check, first_stop, or_next, gates_outcome}
 use Rattle.profile_cli.specs.Order.{arguments_fault, elf_fault, fault_status, last_status, loading, pages_fault}
-use Rattle.profile_cli.specs.Order.{program_limit, reading, run_gate}
+use Rattle.profile_cli.specs.Order.{reading, run_gate}
 use Rattle.profile_cli.specs.OwnReport.{IsReported, parts_to_read, reporting_own}
 use Rattle.profile_cli.specs.Program.{IsMapOf, guest_of}
 use Rattle.profile_cli.specs.Reply.{IsWaitedIn, Works}
@@ -73,8 +74,8 @@ abbrev met_loading : Load → Load → Course
 met_loading program input = record no_course { program = program; input = input }
 
 stopped : {parts : Program → Writing} (old new : Outside) (job : Job) (program input : Load) (status : Status)
-    → IsLoad old.files (program_of job.args) program_limit old.load_faults new.load_faults program
-    → IsLoadIf old.files job.input input_limit old.load_faults new.load_faults input
+    → IsLoad old.files (program_of job.args) file_limit old.load_faults new.load_faults program
+    → IsLoadIf old.files job.input text_limit old.load_faults new.load_faults input
     → first_stop (loading job (met_loading program input)) ≡ Some status → Leaves old nothing new
     → StopsBefore parts old job status new
 stopped old new job program input status is also stop leaves = record {
@@ -93,8 +94,8 @@ pub Stops-wanting : {parts : Program → Writing} (old new : Outside) (job : Job
     → StopsBefore parts old job status new
 Stops-wanting old new job status is leaves =
     stopped old new job (Err (load.OutOfMemory memory)) (unknown_input job.input) status
-    (IsLoad-wanting old.files (program_of job.args) program_limit old.load_faults new.load_faults)
-    (IsLoadIf-unknown old.files job.input input_limit old.load_faults new.load_faults)
+    (IsLoad-wanting old.files (program_of job.args) file_limit old.load_faults new.load_faults)
+    (IsLoadIf-unknown old.files job.input text_limit old.load_faults new.load_faults)
     (ap (λ s. Some s) (sym is)) leaves
 
 -- the checks behind the first two
@@ -105,31 +106,31 @@ others job program input =
 
 -- the program was not loaded
 pub Stops-unloaded : {parts : Program → Writing} (old new : Outside) (job : Job) (found : Load) (status : Status)
-    → IsLoad old.files (program_of job.args) program_limit old.load_faults new.load_faults found
+    → IsLoad old.files (program_of job.args) file_limit old.load_faults new.load_faults found
     → HasStatus (load_fault (program_of job.args) found) status → Leaves old nothing new
     → StopsBefore parts old job status new
 Stops-unloaded old new job found status is (inl wanting) leaves = Stops-wanting old new job status wanting leaves
 Stops-unloaded old new job found status is (inr stop) leaves =
     stopped old new job found (unknown_input job.input) status is
-    (IsLoadIf-unknown old.files job.input input_limit old.load_faults new.load_faults)
+    (IsLoadIf-unknown old.files job.input text_limit old.load_faults new.load_faults)
     (ap (λ s. or_next s (or_next (elf_fault (bytes_of found))
     (others job (bytes_of found) (unknown_input job.input)))) stop) leaves
 
 -- it was refused
 pub Stops-refused : {parts : Program → Writing} (old new : Outside) (job : Job) (bytes : List ℕ) (status : Status)
-    → IsLoad old.files (program_of job.args) program_limit old.load_faults new.load_faults (Ok bytes)
+    → IsLoad old.files (program_of job.args) file_limit old.load_faults new.load_faults (Ok bytes)
     → HasStatus (elf_fault bytes) status → Leaves old nothing new → StopsBefore parts old job status new
 Stops-refused old new job bytes status is (inl wanting) leaves = Stops-wanting old new job status wanting leaves
 Stops-refused old new job bytes status is (inr stop) leaves =
     stopped old new job (Ok bytes) (unknown_input job.input) status is
-    (IsLoadIf-unknown old.files job.input input_limit old.load_faults new.load_faults)
+    (IsLoadIf-unknown old.files job.input text_limit old.load_faults new.load_faults)
     (ap (λ s. or_next s (others job bytes (unknown_input job.input))) stop) leaves
 
 -- What is known once a program and its input were loaded, and the program was read.
 pub record IsRead (old new : Outside) (job : Job) (bytes : List ℕ) (input : Load) : Type 0 where
-  pub load : IsLoad old.files (program_of job.args) program_limit old.load_faults new.load_faults (Ok bytes)
+  pub load : IsLoad old.files (program_of job.args) file_limit old.load_faults new.load_faults (Ok bytes)
   pub accepted : elf_fault bytes ≡ None
-  pub also : IsLoadIf old.files job.input input_limit old.load_faults new.load_faults input
+  pub also : IsLoadIf old.files job.input text_limit old.load_faults new.load_faults input
 
 -- a gate behind the reading stops the work
 past_reading : {parts : Program → Writing} (old new : Outside) (job : Job) (bytes : List ℕ) (input : Load)
@@ -350,43 +351,43 @@ equal_counts before now is = omega (arith, is)
 -- the program was not loaded
 pub Stops-not_loaded : {parts : Program → Writing} (old new : Outside) (job : Job) (name : List ℕ) (status : Status)
     → name ≡ program_of job.args
-    → LoadsFile old.files name program_limit old.load_faults new.load_faults (Err status) → Leaves old nothing new
+    → LoadsFile old.files name file_limit old.load_faults new.load_faults (Err status) → Leaves old nothing new
     → StopsBefore parts old job status new
 Stops-not_loaded old new job name status is loads leaves =
     let answer = subst
-    (λ n. LoadsFile old.files n program_limit old.load_faults new.load_faults (Err status)) is loads in
+    (λ n. LoadsFile old.files n file_limit old.load_faults new.load_faults (Err status)) is loads in
     Stops-unloaded old new job answer.0 status answer.1 answer.2 leaves
 
 -- what was loaded, however much later
 pub load_later : (files : Option Files) (name program : List ℕ) (before now later : ℕ) (found : Vec ℕ Global)
     (bytes : List ℕ) → name ≡ program → bytes ≡ found.items → now ≤ later
-    → LoadsFile files name program_limit before now (Ok found)
-    → IsLoad files program program_limit before later (Ok bytes)
+    → LoadsFile files name file_limit before now (Ok found)
+    → IsLoad files program file_limit before later (Ok bytes)
 load_later files name program before now later found bytes is held late loads =
-    subst (λ b. IsLoad files program program_limit before later (Ok b)) (sym held)
-    (subst (λ n. IsLoad files n program_limit before later (Ok found.items)) is
-    (IsLoadIf-within files (Some name) program_limit before before now later (Ok found.items) (same_count before) late loads))
+    subst (λ b. IsLoad files program file_limit before later (Ok b)) (sym held)
+    (subst (λ n. IsLoad files n file_limit before later (Ok found.items)) is
+    (IsLoadIf-within files (Some name) file_limit before before now later (Ok found.items) (same_count before) late loads))
 
 -- what is known where the program was read, and its input loaded after that, or not
 read_then : (old new : Outside) (job : Job) (bytes : List ℕ) (image : Image) (input : Load) (files : Option Files)
     (before now : ℕ)
-    → IsLoad old.files (program_of job.args) program_limit old.load_faults before (Ok bytes)
+    → IsLoad old.files (program_of job.args) file_limit old.load_faults before (Ok bytes)
     → ReadsProgram bytes (Ok image) → files ≡ old.files → old.load_faults ≤ before → before ≤ now
     → now ≤ new.load_faults
-    → IsLoadIf files job.input input_limit before now input → IsRead old new job bytes input
+    → IsLoadIf files job.input text_limit before now input → IsRead old new job bytes input
 read_then old new job bytes image input files before now loads reads same first second third also = record {
-  load = IsLoadIf-within old.files (Some (program_of job.args)) program_limit old.load_faults old.load_faults before
+  load = IsLoadIf-within old.files (Some (program_of job.args)) file_limit old.load_faults old.load_faults before
       new.load_faults (Ok bytes) (same_count old.load_faults) (omega (arith, second, third)) loads;
   accepted = reads.0;
-  also = IsLoadIf-within old.files job.input input_limit old.load_faults before now new.load_faults input first third
-      (subst (λ f. IsLoadIf f job.input input_limit before now input) same also);
+  also = IsLoadIf-within old.files job.input text_limit old.load_faults before now new.load_faults input first third
+      (subst (λ f. IsLoadIf f job.input text_limit before now input) same also);
 }
 
 -- the input was not loaded
 pub Stops-input_refused : {parts : Program → Writing} (old new : Outside) (job : Job) (bytes : List ℕ) (image : Image)
     (status : Status)
     (files : Option Files) (before : ℕ)
-    → IsLoad old.files (program_of job.args) program_limit old.load_faults before (Ok bytes)
+    → IsLoad old.files (program_of job.args) file_limit old.load_faults before (Ok bytes)
     → ReadsProgram bytes (Ok image) → files ≡ old.files → old.load_faults ≤ before → before ≤ new.load_faults
     → LoadsInput files job.input before new.load_faults (Err status) → Leaves old nothing new
     → StopsBefore parts old job status new
@@ -399,7 +400,7 @@ Stops-input_refused old new job bytes image status files before loads reads same
 -- both were loaded
 pub IsRead-both : (old new : Outside) (job : Job) (bytes : List ℕ) (image : Image) (input : Vec ℕ Global)
     (files : Option Files) (before now : ℕ)
-    → IsLoad old.files (program_of job.args) program_limit old.load_faults before (Ok bytes)
+    → IsLoad old.files (program_of job.args) file_limit old.load_faults before (Ok bytes)
     → ReadsProgram bytes (Ok image) → files ≡ old.files → old.load_faults ≤ before → before ≤ now
     → now ≤ new.load_faults
     → LoadsInput files job.input before now (Ok input) → IsRead old new job bytes (Ok input.items)

@@ -17,8 +17,7 @@ use Rattle.profile_cli.specs.HasRun.{RunOf, run_files}
 use Rattle.profile_cli.specs.Watching.{files_at}
 use Rattle.profile_cli.specs.Headline.{ReportOn}
 use Rattle.profile_cli.specs.Counts.{Counts}
-use Rattle.command_steps.specs.Loading.{input_limit}
-use Rattle.profile_cli.specs.Order.{program_limit}
+use Rattle.outside.specs.Limits.{text_limit, file_limit}
 use Rattle.profile_cli.specs.Words.{program_of}
 
 -- Behind the put of a file, a load of its name that gives bytes gives those that were put.
@@ -34,7 +33,7 @@ loads_back files = map (λ file. Loaded file.0 (length file.1) (Ok file.1)) file
 -- the load of the input, where one is named; else it is empty
 abbrev pub IsFed : Option (List ℕ) → List ℕ → List Call → Type 0
 IsFed None input calls = (input ≡ []) × (calls ≡ [])
-IsFed (Some name) input calls = calls ≡ Loaded name input_limit (Ok input) ∷ []
+IsFed (Some name) input calls = calls ≡ Loaded name text_limit (Ok input) ∷ []
 
 -- source texts are those of the files that are shown, where they are asked for
 abbrev pub AreShown : Bool → Contents → SourceTexts → Type 0
@@ -62,7 +61,7 @@ pub record IsReportByCalls (job : Job) (positions : Positions) (view : View) (st
   pub counts : Counts run.guest run.trace view report_on
   pub sources : AreShown view.auto report_on.report.profile report_on.texts
   pub calls : log.calls
-      ≡ Loaded (program_of job.args) program_limit (Ok program)
+      ≡ Loaded (program_of job.args) file_limit (Ok program)
       ∷ feeding ++ puts_of (run_files (files_at positions) run) ++ loads_back (run_files (files_at positions) run)
       ++ loads_of report_on.texts
   pub out : AreWrittenThen (pieces 1 run.trace) report_on.text log.out

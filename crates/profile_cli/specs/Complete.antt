@@ -15,8 +15,8 @@ use Rattle.profile_cli.specs.ExactDemo.{IsExactDemo}
 use Rattle.command_steps.specs.Gates.{first_stop}
 use Rattle.profile_cli.specs.HasRun.{RunOf}
 use Rattle.profile_cli.specs.Headline.{IsExactReport}
-use Rattle.command_steps.specs.Loading.{input_limit}
-use Rattle.profile_cli.specs.Order.{loading, program_limit}
+use Rattle.outside.specs.Limits.{text_limit, file_limit}
+use Rattle.profile_cli.specs.Order.{loading}
 use Rattle.profile_cli.specs.Watching.{files_at, output_asked}
 use Rattle.profile_cli.specs.Words.{program_of}
 use Rattle.byte_text.specs.Memory.{memory}
@@ -30,8 +30,8 @@ faultless_load_if files (Some name) limit = faultless_load (file files name) lim
 -- what `run` meets over these files, as far as it loads
 abbrev pub faultless_course : Files → Job → Course
 faultless_course files job = record no_course {
-  program = faultless_load (file files (program_of job.args)) program_limit;
-  input = faultless_load_if files job.input input_limit;
+  program = faultless_load (file files (program_of job.args)) file_limit;
+  input = faultless_load_if files job.input text_limit;
 }
 
 -- a line on how the command ended

@@ -56,6 +56,6 @@ pub record IsExactDemo (old : Outside) (size : ℕ) (status : Status) (line : Li
   pub out : new.out.taken
       ≡ taken_more old.out.taken
       (sent_bytes 1 run.trace
-      ++ summary_of_trace size (length file) run.trace run.is.last.0.engine.kernel.guest.made (length (run_files (files_at Line) run))
+      ++ summary_of_trace size (length file) run.trace run.is.last.0.kernel.guest.made (length (run_files (files_at Line) run))
       run.stop.end)
   pub err : new.err.taken ≡ taken_more old.err.taken (sent_bytes 2 run.trace ++ line)

@@ -11,8 +11,8 @@ use Rattle.command_status.specs.Ends.{end_status}
 use Rattle.command_status.specs.Numbers.{is_short}
 use Rattle.command_status.specs.declared.status.Status.{Status}
 use Rattle.command_words.specs.Request.{Request, Job, Positions, Report, Run, View, Watching, watching_at}
-use Rattle.command_steps.specs.Loading.{IsLoadIf, input_limit}
-use Rattle.profile_cli.specs.Order.{program_limit}
+use Rattle.outside.specs.Limits.{text_limit, file_limit}
+use Rattle.command_steps.specs.Loading.{IsLoadIf}
 use Rattle.profile_cli.specs.Program.{IsMapOf, guest_of}
 use Rattle.profile_cli.specs.Watching.{files_asked}
 use Rattle.profile_cli.specs.Words.{program_of}
@@ -38,9 +38,9 @@ run_files files run = files run.guest run.trace run.stop
 -- holds these files of the run besides, and nothing else has changed.
 pub record HasRun (old : Outside) (job : Job) (put : RunFiles) (status : Status) (new : Outside) : Type 0 where
   pub program : List ℕ
-  pub loaded : IsLoad old.files (program_of job.args) program_limit old.load_faults new.load_faults (Ok program)
+  pub loaded : IsLoad old.files (program_of job.args) file_limit old.load_faults new.load_faults (Ok program)
   pub input : List ℕ
-  pub fed : IsLoadIf old.files job.input input_limit old.load_faults new.load_faults (Ok input)
+  pub fed : IsLoadIf old.files job.input text_limit old.load_faults new.load_faults (Ok input)
   pub run : RunOf job program input
   pub status_is : status ≡ end_status run.stop.end
   pub files : new.files ≡ option_map (with_files (run_files put run)) old.files

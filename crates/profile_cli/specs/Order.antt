@@ -70,10 +70,6 @@ run_fault base (Err fault) = Some (fault_status base fault)
 
 -- ---- the gates, in their order
 
--- the most bytes that the file of a program may have
-abbrev pub program_limit : ℕ
-program_limit = file_limit
-
 -- the words are read
 abbrev pub reading : Course → List Gate
 reading met = check (if met.words_read then None else Some (OutOfMemory memory)) ∷ []

@@ -7,8 +7,7 @@ use Rattle.profile_files.specs.Loads.{IsLoad}
 use Rattle.command_status.specs.declared.status.Status.{Status}
 use Rattle.command_status.specs.declared.status.Status.TheVariants as status
 use Rattle.command_words.specs.Request.{Request, Demo, Job, Positions, Report, View}
-use Rattle.command_steps.specs.Loading.{input_limit}
-use Rattle.profile_cli.specs.Order.{program_limit}
+use Rattle.outside.specs.Limits.{text_limit, file_limit}
 use Rattle.profile_cli.specs.Words.{program_of}
 
 -- this file is longer than its limit
@@ -27,8 +26,8 @@ IsNotOfParts IsGiven _ = Unit {0}
 -- it is PROG or its input
 abbrev pub IsOfJob : Outside → Job → Outside → List ℕ → ℕ → Type 0
 IsOfJob old job new name len =
-    ((name ≡ program_of job.args) × IsTooLong old name program_limit len new)
-    ⊎ ((job.input ≡ Some name) × IsTooLong old name input_limit len new)
+    ((name ≡ program_of job.args) × IsTooLong old name file_limit len new)
+    ⊎ ((job.input ≡ Some name) × IsTooLong old name text_limit len new)
 
 -- Where the folder tells its contents, what was put can be read: a file that is too long for `report` is of its job, and
 -- none is for `demo`.

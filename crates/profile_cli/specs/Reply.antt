@@ -14,10 +14,11 @@ use Rattle.profile_files.specs.Loads.{IsLoad}
 use Rattle.outside.specs.Load.{bytes_of}
 use Rattle.command_steps.specs.Annotate.{IsAnnotated}
 use Rattle.profile_cli.specs.Course.{Course, RunOutcome}
-use Rattle.command_steps.specs.Loading.{IsLoadIf, input_limit}
+use Rattle.outside.specs.Limits.{text_limit, file_limit}
+use Rattle.command_steps.specs.Loading.{IsLoadIf}
 use Rattle.profile_cli.specs.Demo.{IsDemoRan}
 use Rattle.command_steps.specs.Gates.{outcome}
-use Rattle.profile_cli.specs.Order.{program_limit, work}
+use Rattle.profile_cli.specs.Order.{work}
 use Rattle.profile_cli.specs.OwnReport.{IsReported}
 use Rattle.profile_cli.specs.Program.{IsMapOf, guest_of}
 use Rattle.profile_cli.specs.Watching.{IsWaited, parts_asked}
@@ -37,8 +38,8 @@ IsRan parts old job met new ran =
 
 -- PROG and its input may load so, and its guest may run so and put these parts.
 pub record IsRun (parts : Program → Writing) (old : Outside) (job : Job) (met : Course) (new : Outside) : Type 0 where
-  pub program : IsLoad old.files (program_of job.args) program_limit old.load_faults new.load_faults met.program
-  pub input : IsLoadIf old.files job.input input_limit old.load_faults new.load_faults met.input
+  pub program : IsLoad old.files (program_of job.args) file_limit old.load_faults new.load_faults met.program
+  pub input : IsLoadIf old.files job.input text_limit old.load_faults new.load_faults met.input
   pub run : IfSome met.run (IsRan parts old job met new)
 
 -- and the report on waiting may be put so

@@ -14,7 +14,8 @@ use Rattle.profile_run.specs.declared.run_fault.RunFault.{RunFault}
 use Rattle.command_status.specs.declared.status.Status.{Status}
 use Rattle.command_words.specs.Request.{Addresses, Contexts, Job, Nothing, Waits, Watching}
 use Rattle.command_steps.specs.Loading.{HasStatus}
-use Rattle.profile_cli.specs.Order.{elf_fault, fault_status, program_limit}
+use Rattle.outside.specs.Limits.{file_limit}
+use Rattle.profile_cli.specs.Order.{elf_fault, fault_status}
 use Rattle.profile_cli.specs.Program.{IsMapOf, guest_of}
 use Rattle.profile_cli.specs.Watching.{put_fault, waits_file, waits_name}
 use Rattle.profile_cli.specs.Words.{program_of}
@@ -54,7 +55,7 @@ Runs parts job program input log result = Wants log result ⊎ GuestRan parts jo
 -- PROG is loaded and read, then its input is loaded where one is named, and then the guest runs.
 abbrev pub LoadsAndRuns : (Program → Writing) → Job → Log → Result (Program × RunEnd) Status → Type 0
 LoadsAndRuns parts job =
-    Then (Loads (program_of job.args) program_limit) (λ program.
+    Then (Loads (program_of job.args) file_limit) (λ program.
     Then (Quiet (Passes (elf_fault program))) (λ accepted.
     Then (LoadsIf job.input) (λ input.
     Runs parts job program input)))

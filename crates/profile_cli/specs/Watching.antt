@@ -7,7 +7,7 @@ use Rattle.outside.specs.Outside.{Named, Outside, Output, nothing}
 use Rattle.outside.specs.declared.folder.PutError.{PutError}
 use Rattle.outside.specs.declared.folder.PutError.TheVariants as put
 use Rattle.run_laws.specs.OwnParts.{files_of_run}
-use Rattle.profile_run.specs.Program.{Program, joined_texts}
+use Rattle.profile_run.specs.Program.{Program, head_of_run}
 use Rattle.profile_run.specs.Parts.{Writing, plain_parts}
 use Rattle.profile_run.specs.Runs.{whole_output}
 use Rattle.profile_run.specs.Trace.{IsTraceOf, Stop, RunStep, steps_of}
@@ -39,7 +39,7 @@ waits_name base = base ++ codes ".waits"
 abbrev pub waits_file : Program → List RunStep → Named
 waits_file guest trace = (
   waits_name guest.options.base,
-  waits_text (joined_texts guest.args) guest.options.branch (wait_rows (steps_of trace)),
+  waits_text (head_of_run guest).cmd guest.options.branch (wait_rows (steps_of trace)),
 )
 
 -- the files of a run with such positions, in the order in which they are put

@@ -1,8 +1,9 @@
 -- Profiles of the same rows in any order have one report, but for the commands.
 use Rattle.std.proofs.Common.{◌≡◌, ℕ, ◌+◌, Bool, true, false, not, ◌&&◌, ◌||◌, nat_lt, List, [], ◌∷◌, ◌++◌, get_or}
 use Rattle.std.proofs.Common.{length, map, filter, sum_by, refl, sym, ap, ◌∙◌, arith, zero-add, append_assoc}
-use Rattle.std.proofs.Common.{if◌then◌else◌}
-use Rattle.std.specs.List.{AllByRecursion, list_any}
+use Rattle.std.proofs.Common.{codes, decimal, flat_map, if◌then◌else◌}
+use Rattle.std.specs.Prelude.{slice_index_or}
+use Rattle.std.specs.List.{AllByRecursion, join_by, list_any}
 use Rattle.std.specs.Str.{bytes_eq}
 use Rattle.std.proofs.lemmas.Bool.{lt-ltb}
 use Rattle.std.proofs.lemmas.List.Elements.{All-from_recursion, recursion_from_All}
@@ -11,12 +12,16 @@ use Rattle.call_graph.specs.Groups.{Grouping}
 use Rattle.cg_read.specs.Merge.{padded_call, padded_self}
 use Rattle.cg_read.specs.Profiles.{Contents, FitsCall, FitsSelf, IsProfile, NamedCall, NamedSelf, SaysTheSame}
 use Rattle.cg_read.specs.Profiles.{named_call, named_call_rows, named_self, named_self_rows, unknown}
+use Rattle.cg_read.specs.Totals.{total}
 use Rattle.cg_read.specs.declared.rows.CallRow.{CallRow}
 use Rattle.cg_read.specs.declared.rows.SelfRow.{SelfRow}
 use Rattle.annotate.specs.Calls.{calls_text}
 use Rattle.annotate.specs.Files.{AreFilesShown, is_in_file}
-use Rattle.annotate.specs.Functions.{command_line, events_line, functions_text, sort_line, totals_line}
-use Rattle.annotate.specs.Report.{IsReportOf, SourceTexts, sources_text, text_with}
+use Rattle.annotate.specs.Functions.{command_line, functions_text}
+use Rattle.annotate.specs.Names.{costs_text}
+use Rattle.report_rows.specs.Lists.{each_event}
+use Rattle.annotate.specs.Report.{IsReportOf, SourceTexts, text_with}
+use Rattle.annotate.specs.Sources.{source_text}
 use Rattle.report_rows.specs.Orders.{is_shown}
 use Rattle.report_rows.specs.declared.options.ReportOptions.{ReportOptions}
 use Rattle.report_laws.specs.Reports.{DifferByCommand}
@@ -71,11 +76,25 @@ module _ (p q : Contents) (alike : TellAlike p q) where
 
 -- ---- the command
 
+abbrev events_line : Contents → List ℕ
+events_line p = codes "events: " ++ join_by (λ name. name) (codes " ") p.events ++ codes "\n"
+
+abbrev totals_line : Contents → List ℕ
+totals_line p = codes "totals: " ++ costs_text (each_event p (total p)) ++ codes "\n"
+
+abbrev sort_line : Contents → ReportOptions → List ℕ
+sort_line p options =
+    codes "sort: " ++ slice_index_or p.events options.sort [] ++ codes " threshold: " ++ decimal options.threshold
+    ++ codes "\n"
+
+abbrev source_texts : Contents → Bool → SourceTexts → List ℕ
+source_texts p asked texts = if asked then flat_map (λ t. source_text p t.0 t.1) texts else []
+
 -- what stands behind the first line
 abbrev rest_of : Contents → Grouping → List (List ℕ) → ReportOptions → SourceTexts → List ℕ → List ℕ → List ℕ
 rest_of p groups costs options texts functions shown =
     events_line p ++ totals_line p ++ sort_line p options ++ functions_text p groups costs functions shown
-    ++ calls_text p groups functions shown options.tree ++ sources_text p options.auto texts
+    ++ calls_text p groups functions shown options.tree ++ source_texts p options.auto texts
 
 behind : (c e t s f k r : List ℕ) → (c ++ e ++ t ++ s) ++ f ++ k ++ r ≡ c ++ (e ++ t ++ s ++ f ++ k ++ r)
 behind c e t s f k r = simp append_assoc
@@ -87,7 +106,7 @@ split : (p : Contents) (groups : Grouping) (costs : List (List ℕ)) (options : 
 split p groups costs options texts functions shown =
     behind (command_line p) (events_line p) (totals_line p) (sort_line p options)
     (functions_text p groups costs functions shown) (calls_text p groups functions shown options.tree)
-    (sources_text p options.auto texts)
+    (source_texts p options.auto texts)
 
 module _ (p q : Contents) (profile : IsProfile p) (other : IsProfile q) (alike : TellAlike p q) where
   -- the second profile with the command of the first

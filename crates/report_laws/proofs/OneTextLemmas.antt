@@ -37,7 +37,8 @@ pub use Rattle.report_rows.proofs.ListLemmas.{filter_agree_on, filter_of_map, fl
 use Rattle.annotate.specs.Calls.{call_line, callees_text, callers_text, calls_of, calls_text, is_call, is_off}
 use Rattle.annotate.specs.Functions.{function_text, functions_text, group_rest, group_text, heading, is_large}
 use Rattle.annotate.specs.Names.{costs_text}
-use Rattle.annotate.specs.Report.{IsReportOf, SourceTexts, sources_text, text_with}
+use Rattle.annotate.specs.Report.{IsReportOf, SourceTexts, text_with}
+use Rattle.annotate.specs.Sources.{source_text}
 use Rattle.report_laws.proofs.StandLemmas.{func_again}
 use Rattle.report_laws.proofs.ArrangedLemmas.{AreAmong, IsInOrder, all_below, numbers_below, one_order}
 
@@ -363,7 +364,7 @@ module _ (p : Contents) (profile : IsProfile p) where
           let all = all_below (length groups.cyclic) ranked falling.same in
           let some = All-filter (is_shown p costs options) (λ c. c < length groups.cyclic) ranked all in
           (λ i. heading p options ++ functions_same shown some i ++ calls_same shown options.tree some i
-          ++ sources_text p options.auto texts)
+          ++ (if options.auto then flat_map (λ t. source_text p t.0 t.1) texts else []))
           ∙ ap (text_with p others more options texts fs) (sym (ap (filter (is_shown p more options))
           (ranked_same options.sort ranked again falling falls) ∙ shown_same options ranked all))
 

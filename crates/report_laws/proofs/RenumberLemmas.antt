@@ -4,6 +4,7 @@ use Rattle.std.proofs.Common.{All, Contains, get_or, length, map, filter, flat_m
 use Rattle.std.proofs.Common.{cond, codes, count_by, if◌then◌else◌, sum_by, suc}
 use Rattle.std.specs.Prelude.{decimal, fold, max, slice_index, slice_index_or}
 use Rattle.std.specs.List.{AllByRecursion, join_by, list_any, position_or_len, range_with_len}
+use Rattle.std.specs.Option.{option_map_or}
 use Rattle.std.specs.Str.{bytes_eq}
 use Rattle.std.proofs.lemmas.Bool.{lt-ltb}
 use Rattle.std.proofs.lemmas.List.{length-map, map-append}
@@ -30,9 +31,9 @@ use Rattle.report_rows.specs.Orders.{AreInOrder, IsArranged, cost_at, group_orde
 use Rattle.report_rows.specs.Orders.{members, numbers}
 use Rattle.report_laws.proofs.OneTextLemmas.{filter_agree_on, filter_of_map, flat_map_agree, sum_agree_on, sum_of_map}
 use Rattle.annotate.specs.Calls.{call_line, callees_text, callers_text, calls_of, calls_text, is_call, is_off}
-use Rattle.annotate.specs.Functions.{command_text, heading}
+use Rattle.annotate.specs.Functions.{heading}
 use Rattle.annotate.specs.Functions.{cycle_text, function_text, functions_text, group_rest, group_text, is_large}
-use Rattle.annotate.specs.Functions.{member_line, self_and_name, self_text}
+use Rattle.annotate.specs.Functions.{self_and_name, self_text}
 use Rattle.annotate.specs.Names.{costs_text, name_text}
 use Rattle.report_rows.specs.declared.options.Tree.{Tree}
 use Rattle.report_rows.specs.declared.options.Tree.TheVariants.{Off, Caller, Calling, Both}
@@ -386,8 +387,8 @@ module _ (p q : Contents) (profile : IsProfile p) (other : IsProfile q) (says : 
   cycle_in : (t m : ℕ → Bool) → ((f : ℕ) → f < num → t (to f) ≡ m f) → (number : ℕ) (fs : List ℕ)
       → All (λ f. f < num) fs → cycle_text q t number (map to fs) ≡ cycle_text p m number fs
   cycle_in t m agree number fs all =
-      let lines = flat_map-map (member_line q) to fs
-      ∙ flat_map_agree (λ f. member_line q (to f)) (member_line p) fs
+      let lines = flat_map-map (λ f. codes "  - | " ++ self_and_name q f) to fs
+      ∙ flat_map_agree (λ f. codes "  - | " ++ self_and_name q (to f)) (λ f. codes "  - | " ++ self_and_name p f) fs
       (λ k d lt. ap (λ (text : List ℕ). codes "  - | " ++ text) (self_name_in (get_or fs k d) (all k d lt))) in
       let self = self_in t m agree in
       λ i. self i ++ codes " | <cycle " ++ decimal number ++ codes ">\n" ++ lines i
@@ -517,7 +518,7 @@ module _ (p q : Contents) (profile : IsProfile p) (other : IsProfile q) (says : 
       let events = sym says.events in
       let command = sym says.command in
       let totals = costs_of (total q) (total p) (total_same p q profile other says) in
-      λ i. (codes "command: " ++ command_text (command i) ++ codes "\n")
+      λ i. (codes "command: " ++ option_map_or clean_name (command i) unknown ++ codes "\n")
       ++ (codes "events: " ++ join_by (λ name. name) (codes " ") (events i) ++ codes "\n")
       ++ (codes "totals: " ++ totals i ++ codes "\n")
       ++ (codes "sort: " ++ slice_index_or (events i) options.sort [] ++ codes " threshold: "

@@ -46,7 +46,7 @@ use Rattle.addr_rows.specs.Rows.{AddrListed}
 use Rattle.addr_rows.specs.declared.rows.AddrArc.{AddrArc}
 use Rattle.addr_rows.specs.declared.rows.AddrLine.{AddrLine}
 use Rattle.sym_map.specs.AddressMap.{address_map}
-use Rattle.sym_map.specs.Ranges.{address_line}
+use Rattle.sym_map.specs.AddressMap.{address_line}
 use Rattle.addr_rows.specs.EventRows.{addr_rows_of, located_rows, located_arc, located_line}
 use Rattle.addr_rows.specs.Files.{addr_rows_in}
 use Rattle.addr_rows.specs.Stacked.{with_stacks_of}

@@ -16,7 +16,7 @@ use Rattle.cg_format.specs.declared.file_key.FileKey.TheVariants.{OfCallee}
 use Rattle.cg_format.specs.declared.head.PartHead.{PartHead}
 use Rattle.cg_format.specs.declared.trigger.Trigger.{Trigger}
 use Rattle.sym_map.specs.AddressMap.{address_map}
-use Rattle.sym_map.specs.Ranges.{address_line, no_file}
+use Rattle.sym_map.specs.AddressMap.{address_line, no_file}
 use Rattle.sym_map.specs.SymbolMap.{IsFunc, SymbolMap, entry_of, place_of}
 use Rattle.shadow_stack.specs.Traces.{EventOnStack}
 use Rattle.outside.specs.Outside.{Named}

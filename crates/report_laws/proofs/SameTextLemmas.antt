@@ -8,7 +8,8 @@ use Rattle.std.proofs.lemmas.List.Elements.{recursion_from_All}
 use Rattle.std.proofs.lemmas.Option.{slice_get-get_or}
 use Rattle.event_costs.specs.declared.numbers.FuncId.{FuncId}
 use Rattle.arc_costs.specs.Contents.{Listed}
-use Rattle.sym_map.specs.Places.{unknown_function, unknown_name}
+use Rattle.byte_text.specs.Names.{unknown as unknown_name}
+use Rattle.sym_map.specs.Places.{unknown_function}
 use Rattle.sym_map.specs.SymbolMap.{IsFunc, SymbolMap, home_of, identity_in}
 use Rattle.cg_format.specs.Heading.{heading, totals}
 use Rattle.cg_format.specs.Marks.{Callee, Calls, Costs, File, Function as Fn, Mark, Plain, files, functions, id_text, key_text}

@@ -3,7 +3,7 @@ use Rattle.std.proofs.Common.{◌≡◌, ℕ, ◌+◌, ◌*◌, ◌<◌, ◌==�
 use Rattle.std.proofs.Common.{[], ◌∷◌, ◌++◌, get_or, length, map, filter, flat_map, take, refl, sym, ap, ◌∙◌, arith}
 use Rattle.std.proofs.Common.{if◌then◌else◌, codes, count_by, sum_by, true≢false, ⊎_elim, ◌⊎◌}
 use Rattle.std.specs.Prelude.{decimal, fold, max, slice_index, slice_index_or}
-use Rattle.std.specs.List.{list_any}
+use Rattle.std.specs.List.{join_by, list_any}
 use Rattle.std.specs.Str.{bytes_eq}
 use Rattle.std.proofs.lemmas.Bool.{lt-ltb}
 use Rattle.std.proofs.lemmas.Bool.Decides.{nat_tests}
@@ -18,12 +18,12 @@ use Rattle.cycles.specs.Limits.{pair_calls, pair_cost}
 use Rattle.annotate.specs.Calls.{call_line, callees_text, callers_text, calls_of}
 use Rattle.annotate.specs.Calls.{calls_text, is_call, is_off, pair_text}
 use Rattle.annotate.specs.Files.{AreFilesShown, is_file_shown}
-use Rattle.annotate.specs.Functions.{command_line, cycle_text, events_line, function_text, functions_text, group_rest}
-use Rattle.annotate.specs.Functions.{group_text, heading, is_large, self_and_name, self_text, sort_line}
+use Rattle.annotate.specs.Functions.{command_line, cycle_text, function_text, functions_text, group_rest}
+use Rattle.annotate.specs.Functions.{group_text, heading, is_large, self_and_name, self_text}
 use Rattle.annotate.specs.Names.{costs_text}
 use Rattle.report_rows.specs.Lists.{each_event}
 use Rattle.report_rows.specs.Orders.{cost_at, is_shown, members, numbers}
-use Rattle.annotate.specs.Report.{IsReport, SourceTexts, sources_text, text_with}
+use Rattle.annotate.specs.Report.{IsReport, SourceTexts, text_with}
 use Rattle.annotate.specs.Sources.{has_cost, line_cost, line_costs_text, lines_end, lines_text, others_text, shown_byte}
 use Rattle.annotate.specs.Sources.{source_text, text_line, text_lines}
 use Rattle.report_rows.specs.declared.options.ReportOptions.{ReportOptions}
@@ -141,8 +141,10 @@ module _ (q : Contents) (selfs : List SelfRow) (calls : List CallRow) (alike : S
 
   heading_same : (options : ReportOptions) → heading p options ≡ heading q options
   heading_same options = λ i.
-      command_line q ++ events_line q ++ (codes "totals: " ++ costs_text (each_event q (total_same i)) ++ codes "\n")
-      ++ sort_line q options
+      command_line q ++ (codes "events: " ++ join_by (λ name. name) (codes " ") q.events ++ codes "\n")
+      ++ (codes "totals: " ++ costs_text (each_event q (total_same i)) ++ codes "\n")
+      ++ (codes "sort: " ++ slice_index_or q.events options.sort [] ++ codes " threshold: " ++ decimal options.threshold
+      ++ codes "\n")
 
   self_text_same : (member : ℕ → Bool) → self_text p member ≡ self_text q member
   self_text_same member = λ i. costs_text (each_event q (self_same member i))
@@ -239,7 +241,9 @@ module _ (q : Contents) (selfs : List SelfRow) (calls : List CallRow) (alike : S
   source_same name Missing = refl
   source_same name (TooLong len) = refl
 
-  sources_same : (asked : Bool) (texts : SourceTexts) → sources_text p asked texts ≡ sources_text q asked texts
+  sources_same : (asked : Bool) (texts : SourceTexts)
+      → (if asked then flat_map (λ t. source_text p t.0 t.1) texts else [])
+      ≡ (if asked then flat_map (λ t. source_text q t.0 t.1) texts else [])
   sources_same asked texts = λ i. if asked then flat_map (λ t. source_same t.0 t.1 i) texts else []
 
   shown_same : (costs : List (List ℕ)) (options : ReportOptions) → is_shown p costs options ≡ is_shown q costs options

@@ -1,6 +1,7 @@
 -- A run over the map that tells code by its addresses is the run of the guest, with other stacks; and its answer is one of
 -- the run by address.
 use Rattle.std.proofs.Common.{◌≡◌, inl, inr, ℕ, List, [], ◌∷◌, ◌++◌, append_assoc, flat_map, length, refl, ap, sym}
+use Rattle.std.specs.Option.{option_or}
 use Rattle.std.proofs.Common.{subst, suc, ◌∙◌, ◌+◌, Option, None, Some, Result, Ok, Err}
 use Rattle.std.proofs.lemmas.List.{append-nil, map-append}
 use Rattle.outside.specs.Outside.{Log, Outside, Output, puts_of}
@@ -9,19 +10,19 @@ use Rattle.outside.specs.declared.sink.WriteError.TheVariants as write
 use Rattle.event_costs.specs.Runs.{Run}
 use Rattle.event_costs.specs.declared.outcome.End.{End}
 use Rattle.cache_lru.specs.Costs.{event_cost}
-use Rattle.guest_sched.specs.Machine.{Machine, next}
-use Rattle.guest_sched.specs.Step.{MachineStep}
+use Rattle.guest_sched.specs.Engine.{Engine}
+use Rattle.guest_sched.specs.Step.{MachineStep, step as machine_step}
 use Rattle.sym_map.specs.SymbolMap.{SymbolMap}
 use Rattle.shadow_stack.specs.Traces.{stack_of}
 use Rattle.part_dump.specs.Cuts.{Split, cuts}
 use Rattle.part_dump.specs.Steps.{Step, event_of, live, events_of_thread, stack_at, thread_of}
 use Rattle.cg_format.specs.declared.trigger.Trigger.{Trigger}
-use Rattle.profile_run.specs.Program.{Fits, Program, first_machine, head_of_run}
+use Rattle.profile_run.specs.Program.{Fits, Program, head_of_run}
 use Rattle.profile_run.specs.Parts.{Writing, watched_parts}
 use Rattle.profile_run.specs.Runs.{Answers, Does, EndsPart, RunEnd, HasDone, HasDoneSome, HasFailedAt, HasFailedBehind}
 use Rattle.profile_run.specs.Runs.{IsAtPut, IsAtWrite, IsCut, IsCutShort, IsFrontOfTrace, Runs, whole_output}
-use Rattle.profile_run.specs.Trace.{IsTraceOf, Makes, Position, Stop, RunStep, end_before, events_of, exit_end, frames_end, next_step}
-use Rattle.profile_run.specs.Trace.{bytes_to, waiting_end, or_else, piece_to, pieces, sent_bytes, budget_end, steps_of, run_step}
+use Rattle.profile_run.specs.Trace.{IsTraceOf, Makes, Position, Stop, RunStep, end_before, events_of, next_step}
+use Rattle.profile_run.specs.Trace.{bytes_to, piece_to, pieces, sent_bytes, start, steps_of, run_step}
 use Rattle.profile_run.specs.declared.run_fault.RunFault.{RunFault}
 use Rattle.profile_run.specs.declared.run_fault.RunFault.TheVariants as fault
 use Rattle.run_laws.proofs.Others.{goes_is, address_code, address_names, code_back}
@@ -33,6 +34,7 @@ use Rattle.addr_rows.specs.Translated.{translation}
 use Rattle.addr_rows.proofs.RestackLemmas as restacks
 use Rattle.addr_rows.proofs.TranslatedLemmas as files
 use Rattle.run_laws.specs.Addresses.{addr_parts, addressed}
+use Rattle.profile_run.proofs.TraceLemmas.{budget_end, exit_end, frames_end, waiting_end}
 
 -- ---- steps with other stacks
 
@@ -123,19 +125,19 @@ module _ (guest : Program) where
       ap (live m) (steps_retook m [] past)
       ∙ restacks.live_stacked m n (code_back m n (address_code m)) (address_names m) (steps_of past)
 
-  end_its : (machine : Machine) (past : List RunStep) → end_before guest machine (its past) ≡ end_before other machine past
+  end_its : (machine : Engine) (past : List RunStep) → end_before guest machine (its past) ≡ end_before other machine past
   end_its machine past = λ i.
-      or_else (exit_end machine.engine.exit)
-      (or_else (budget_end guest.options.budget (length_retook m [] past i))
-      (or_else (frames_end (live_its past i)) (waiting_end machine.engine.run_queue.ready)))
+      option_or (exit_end machine.exit)
+      (option_or (budget_end guest.options.budget (length_retook m [] past i))
+      (option_or (frames_end (live_its past i)) (waiting_end machine.run_queue.ready)))
 
   -- a run from a position on
-  pub record RunsOn (before past : List RunStep) (machine : Machine) (last : Position) : Type 0 where
+  pub record RunsOn (before past : List RunStep) (machine : Engine) (last : Position) : Type 0 where
     pub run : Run (next_step guest) (machine, its before) (retook m (steps_of before) past) (last.0, its (before ++ past))
     pub on : AreOn n (steps_of before) (steps_of past)
     pub is : last.1 ≡ before ++ past
 
-  runs_on : (before past : List RunStep) (machine : Machine) (last : Position)
+  runs_on : (before past : List RunStep) (machine : Engine) (last : Position)
       → Run (next_step other) (machine, before) past last → RunsOn before past machine last
   runs_on before [] machine last run = record {
     run = λ i. ((run i).0, its (sym (append-nil before) i));
@@ -173,20 +175,20 @@ module _ (guest : Program) where
 
   pub makes_its : (past : List RunStep) → Makes other past → Makes guest (its past)
   makes_its past makes =
-      let all = runs_on [] past (first_machine guest) makes.last makes.run in
+      let all = runs_on [] past (start guest).0 makes.last makes.run in
       record { last = (makes.last.0, its past); run = all.run }
 
   pub made_on : (past : List RunStep) → Makes other past → AreOn n [] (steps_of past)
-  made_on past makes = (runs_on [] past (first_machine guest) makes.last makes.run).on
+  made_on past makes = (runs_on [] past (start guest).0 makes.last makes.run).on
 
   not_both : {A E : Type 0} (a : A) (e : E) → ◌≡◌ {A = Result A E} (Ok a) (Err e) → ⊥
   not_both a e is = cc
 
-  stops_its : (machine : Machine) (past : List RunStep) (stop : Stop) → next_step other (machine, past) ≡ Err stop
+  stops_its : (machine : Engine) (past : List RunStep) (stop : Stop) → next_step other (machine, past) ≡ Err stop
       → next_step guest (machine, its past) ≡ Err stop
-  stops_its machine past stop is = by (end_before other machine past) refl (next machine) refl
+  stops_its machine past stop is = by (end_before other machine past) refl (machine_step machine) refl
     where
-      by : (o : Option End) → end_before other machine past ≡ o → (r : Result (MachineStep × Machine) End) → next machine ≡ r
+      by : (o : Option End) → end_before other machine past ≡ o → (r : Result (MachineStep × Engine) End) → machine_step machine ≡ r
           → next_step guest (machine, its past) ≡ Err stop
       by (Some end) over r made =
           going-over guest (machine, its past) end (end_its machine past ∙ over)
@@ -199,7 +201,7 @@ module _ (guest : Program) where
 
   pub trace_its : (trace : List RunStep) (stop : Stop) → IsTraceOf other trace stop → IsTraceOf guest (its trace) stop
   trace_its trace stop is =
-      let all = runs_on [] trace (first_machine guest) is.last is.run in
+      let all = runs_on [] trace (start guest).0 is.last is.run in
       record {
         last = (is.last.0, its trace);
         run = all.run;

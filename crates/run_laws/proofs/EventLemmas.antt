@@ -15,8 +15,8 @@ use Rattle.guest_sched.specs.Step.{MachineStep}
 use Rattle.run_laws.proofs.Others.{next_is, step_is}
 use Rattle.run_laws.proofs.Others.{Holds, holds_first, holds_next, of_machine}
 use Rattle.part_dump.specs.Steps.{Step, thread_of}
-use Rattle.profile_run.specs.Program.{Program, first_machine, CanRun}
-use Rattle.profile_run.specs.Steps.{AreOfMachine, AreTold, IsTold}
+use Rattle.profile_run.specs.Program.{Program, CanRun}
+use Rattle.profile_run.specs.Steps.{AreOfMachine, AreTold, IsTold, first_machine}
 use Rattle.profile_run.specs.Trace.{Makes, RunStep, events_of, steps_of}
 use Rattle.once_each.specs.Graphs.{AreOfMap}
 use Rattle.once_each.specs.Orderly.{FitTops, FitsTop, GoOn, IsRunSized}

@@ -1,5 +1,6 @@
 -- A guest whose code another map tells the same makes the same steps, with the same rows.
 use Rattle.std.proofs.Common.{◌≡◌, ◌<◌, ◌+◌, ◌^◌, ℕ, List, [], ◌∷◌, ◌++◌, append_assoc, length, map, flat_map, refl, ap, sym}
+use Rattle.std.specs.Option.{option_or}
 use Rattle.std.proofs.Common.{subst, ◌∙◌, Option, None, Some, Result, Ok, Err, arith}
 use Rattle.std.specs.List.{AllByRecursion, enumerate_from}
 use Rattle.std.specs.Prelude.{slice_index_or}
@@ -9,8 +10,9 @@ use Rattle.event_costs.specs.declared.outcome.End.{End}
 use Rattle.cache_lru.specs.Costs.{event_cost}
 use Rattle.cg_format.specs.declared.trigger.Trigger.{Trigger}
 use Rattle.cg_format.specs.declared.trigger.Trigger.TheVariants.{Termination}
+use Rattle.guest_sched.specs.Engine.{Engine}
 use Rattle.guest_sched.specs.Machine.{Machine, next}
-use Rattle.guest_sched.specs.Step.{MachineStep}
+use Rattle.guest_sched.specs.Step.{MachineStep, step as machine_step}
 use Rattle.arc_costs.specs.Contents.{Listed}
 use Rattle.byte_text.specs.Names.{clean_name}
 use Rattle.cg_format.specs.declared.head.PartHead.{PartHead}
@@ -19,16 +21,17 @@ use Rattle.cg_read.specs.Profiles.{named_self_rows}
 use Rattle.once_each.specs.Texts.{named_arc, named_line}
 use Rattle.reads_back.specs.Joined.{rows_of_all}
 use Rattle.reads_back.specs.Rows.{IsOfRows, naming}
-use Rattle.sym_map.specs.Places.{unknown_function, unknown_name}
+use Rattle.byte_text.specs.Names.{unknown as unknown_name}
+use Rattle.sym_map.specs.Places.{unknown_function}
 use Rattle.sym_map.specs.SymbolMap.{SymbolMap, identity_in}
 use Rattle.shadow_stack.specs.Traces.{EventOnStack}
 use Rattle.part_dump.specs.Cuts.{Split}
 use Rattle.part_dump.specs.Steps.{Step, events_on_stack_of, threads}
 use Rattle.recorder.specs.Rows.{rows_of}
-use Rattle.profile_run.specs.Program.{Program, CanRun, first_machine, head_of_run}
+use Rattle.profile_run.specs.Program.{Program, CanRun, head_of_run}
 use Rattle.profile_run.specs.Steps.{AreTold}
-use Rattle.profile_run.specs.Trace.{IsTraceOf, Makes, Position, RunStep, Stop, budget_end, end_before, events_of, exit_end}
-use Rattle.profile_run.specs.Trace.{frames_end, next_step, or_else, run_step, start, steps_of, waiting_end}
+use Rattle.profile_run.specs.Trace.{IsTraceOf, Makes, Position, RunStep, Stop, end_before, events_of}
+use Rattle.profile_run.specs.Trace.{next_step, run_step, start, steps_of}
 use Rattle.run_laws.proofs.Others.{going-end, going-over, going-step}
 use Rattle.once_each.specs.Written.{segment_parts, segments_of, thread_part}
 use Rattle.run_laws.specs.Maps.{TellTheSame, with_map}
@@ -40,6 +43,7 @@ use Rattle.run_laws.proofs.NextLemmas.{next_low}
 use Rattle.run_laws.proofs.PartLemmas as parts
 use Rattle.run_laws.proofs.PartLemmas.{together}
 use Rattle.run_laws.proofs.SameStackLemmas.{AreLow, IsLowSeen, IsLowStep, at_same, cuts_same, live_same, low_seen, rows_same}
+use Rattle.profile_run.proofs.TraceLemmas.{budget_end, exit_end, frames_end, waiting_end}
 
 -- ---- the pcs of a run
 
@@ -90,12 +94,12 @@ module _ (guest : Program) (can : CanRun guest) (syms : SymbolMap) (same : TellT
     threads = told.threads;
   }
 
-  end_same : (machine : Machine) (past : List RunStep) → AreLow (steps_of past)
+  end_same : (machine : Engine) (past : List RunStep) → AreLow (steps_of past)
       → end_before guest machine past ≡ end_before other machine past
   end_same machine past all = λ i.
-      or_else (exit_end machine.engine.exit)
-      (or_else (budget_end guest.options.budget (length past))
-      (or_else (frames_end (live_same m syms same (steps_of past) all i)) (waiting_end machine.engine.run_queue.ready)))
+      option_or (exit_end machine.exit)
+      (option_or (budget_end guest.options.budget (length past))
+      (option_or (frames_end (live_same m syms same (steps_of past) all i)) (waiting_end machine.run_queue.ready)))
 
   low_push : (before : List RunStep) (x : RunStep) → AreLow (steps_of before) → IsLowStep x.step
       → AreLow (steps_of (before ++ x ∷ []))
@@ -104,11 +108,11 @@ module _ (guest : Program) (can : CanRun guest) (syms : SymbolMap) (same : TellT
       (all_append IsLowStep (steps_of before) (x.step ∷ []) all (low, tt))
 
   -- the other one's run from a position on
-  pub record Follows (before past : List RunStep) (machine : Machine) (last : Position) : Type 0 where
+  pub record Follows (before past : List RunStep) (machine : Engine) (last : Position) : Type 0 where
     pub run : Run (next_step other) (machine, before) past last
     pub past_is : last.1 ≡ before ++ past
 
-  follows : (before past : List RunStep) (machine : Machine) (last : Position) → AreLow (steps_of before)
+  follows : (before past : List RunStep) (machine : Engine) (last : Position) → AreLow (steps_of before)
       → AreLow (steps_of past)
       → Run (next_step guest) (machine, before) past last → Follows before past machine last
   follows before [] machine last all low run = record {
@@ -135,21 +139,21 @@ module _ (guest : Program) (can : CanRun guest) (syms : SymbolMap) (same : TellT
   pub makes_same : (past : List RunStep) → Makes guest past → Makes other past
   makes_same past makes = record {
     last = makes.last;
-    run = (follows [] past (first_machine guest) makes.last tt (lows guest can past makes) makes.run).run;
+    run = (follows [] past (start guest).0 makes.last tt (lows guest can past makes) makes.run).run;
   }
 
   not_both : {A E : Type 0} (a : A) (e : E) → ◌≡◌ {A = Result A E} (Ok a) (Err e) → ⊥
   not_both a e is = cc
 
-  stops_same : (machine : Machine) (past : List RunStep) (stop : Stop) → AreLow (steps_of past)
+  stops_same : (machine : Engine) (past : List RunStep) (stop : Stop) → AreLow (steps_of past)
       → next_step guest (machine, past) ≡ Err stop → next_step other (machine, past) ≡ Err stop
-  stops_same machine past stop all is = by (end_before guest machine past) refl (next machine) refl
+  stops_same machine past stop all is = by (end_before guest machine past) refl (machine_step machine) refl
     where
       end : end_before other machine past ≡ end_before guest machine past
       end = sym (end_same machine past all)
 
-      by : (o : Option End) → end_before guest machine past ≡ o → (r : Result (MachineStep × Machine) End)
-          → next machine ≡ r → next_step other (machine, past) ≡ Err stop
+      by : (o : Option End) → end_before guest machine past ≡ o → (r : Result (MachineStep × Engine) End)
+          → machine_step machine ≡ r → next_step other (machine, past) ≡ Err stop
       by (Some e) over r made =
           going-over other (machine, past) e (end ∙ over) ∙ sym (going-over guest (machine, past) e over) ∙ is
       by None none (Err e) made =
@@ -160,7 +164,7 @@ module _ (guest : Program) (can : CanRun guest) (syms : SymbolMap) (same : TellT
   trace_same : (trace : List RunStep) (stop : Stop) → IsTraceOf guest trace stop → IsTraceOf other trace stop
   trace_same trace stop is =
       let all = lows guest can trace (record { last = is.last; run = is.run }) in
-      let run = follows [] trace (first_machine guest) is.last tt all is.run in
+      let run = follows [] trace (start guest).0 is.last tt all is.run in
       record {
         last = is.last;
         run = run.run;

@@ -2,7 +2,7 @@
 use Rattle.std.proofs.Common.{◌≡◌, ℕ, ◌+◌, ◌-◌, ◌<◌, ◌==◌, ◌^◌, ◌&&◌, ◌∙◌, Bool, true, false, not, List, [], ◌∷◌, ◌++◌}
 use Rattle.std.proofs.Common.{Option, None, Some, ap, filter, flat_map, if◌then◌else◌, length, lit≤, map, refl, take}
 use Rattle.std.specs.List.{AllByRecursion, list_any, slice_get, sum_by}
-use Rattle.std.specs.Option.{option_map_or, option_to_list}
+use Rattle.std.specs.Option.{option_map_or, option_or, option_to_list, unwrap_or}
 use Rattle.std.specs.Prelude.{slice_index}
 use Rattle.std.specs.Str.{bytes_eq}
 use Rattle.event_costs.specs.Keys.{ArcKey, Place}
@@ -19,14 +19,14 @@ use Rattle.cg_format.specs.declared.trigger.Trigger.TheVariants.{After, Before}
 use Rattle.sym_map.specs.SymbolMap.{SymbolMap, place_of}
 use Rattle.shadow_stack.specs.Changes.{Change, after, arc_from, beneath_call, change, change_by, cut, down_to}
 use Rattle.shadow_stack.specs.Changes.{drop_groups, is_returned_from, is_under, next_func, push, remaining_groups}
-use Rattle.shadow_stack.specs.Changes.{rest_or_groups, settle, settle_on, with_pushed}
+use Rattle.shadow_stack.specs.Changes.{settle, settle_on, with_pushed}
 use Rattle.shadow_stack.specs.Kinds.{call_of, is_level, jump, returns_by}
 use Rattle.shadow_stack.specs.Stacks.{Group, Stack, groups, has_func, is_top, members, root, stack_of_groups}
 use Rattle.shadow_stack.specs.Traces.{EventOnStack, stack_after, stack_of}
 use Rattle.shadow_stack.specs.declared.frame.Kind.{Kind}
 use Rattle.shadow_stack.specs.declared.frame.Kind.TheVariants.{Root}
 use Rattle.part_dump.specs.Cuts.{DumpPoints, after_cut, before_cut, cut_after, cuts, every_cut, has_name}
-use Rattle.part_dump.specs.Cuts.{marked_after, most_cuts, or_else, split}
+use Rattle.part_dump.specs.Cuts.{marked_after, most_cuts, split}
 use Rattle.part_dump.specs.Steps.{Step, event_of, events_of_thread, events_on_stack_of, frames_in, live, stack_at}
 use Rattle.part_dump.specs.Steps.{steps_of_thread, thread_of, threads}
 use Rattle.recorder.specs.Rows.{arcs_at, arcs_of, rows_of}
@@ -86,7 +86,9 @@ module _ (m n : SymbolMap) (same : TellTheSame m n) where
         if returns_by e g.base.kind then gs
         else drop_groups (λ hs. returned_same hs i) (drop_groups (is_under e) (g ∷ gs))
 
-    rest_same : (s : Stack) (o : Option Stack) → rest_or_groups m e s o ≡ rest_or_groups n e s o
+    rest_same : (s : Stack) (o : Option Stack)
+        → unwrap_or o (stack_of_groups (remaining_groups m e (groups s)))
+        ≡ unwrap_or o (stack_of_groups (remaining_groups n e (groups s)))
     rest_same s (Some rest) = refl
     rest_same s None = λ i. stack_of_groups (remaining_same (groups s) i)
 
@@ -166,7 +168,7 @@ module _ (m n : SymbolMap) (same : TellTheSame m n) where
 
     cut_after_same : (asked : DumpPoints) (steps : ℕ) → cut_after m asked steps x ≡ cut_after n asked steps x
     cut_after_same asked steps = λ i.
-        or_else (every_cut asked.every steps) (or_else (before_same asked.before i) (left_same asked.after i))
+        option_or (every_cut asked.every steps) (option_or (before_same asked.before i) (left_same asked.after i))
 
   marked_same : (asked : DumpPoints) (earlier xs : List Step) → AreLow xs
       → each_after (marked_after m asked) earlier xs ≡ each_after (marked_after n asked) earlier xs

@@ -25,20 +25,17 @@ number_in guest p f =
 abbrev pub graph_of_run : Program → List RunStep → List CallArc
 graph_of_run guest trace = graph guest.syms (events_with_costs trace)
 
--- what the events of a run cost on whose thread's stack a function of the group stands, each counted once
-abbrev pub group_once : Program → List RunStep → Contents → Grouping → ℕ → ℕ → ℕ
-group_once guest trace p groups group kind =
-    once (λ f. is_member groups group (number_in guest p f)) kind (events_with_stacks trace)
-
--- and those on whose thread's stack one of these functions of the profile stands directly on the other
+-- what the events of a run cost on whose thread's stack one of these functions of the profile stands directly on the
+-- other, each counted once
 abbrev pub pair_once : Program → List RunStep → Contents → ℕ → ℕ → ℕ → ℕ
 pair_once guest trace p caller callee kind =
     once_pair (λ f. number_in guest p f == caller) (λ f. number_in guest p f == callee) kind (events_with_stacks trace)
 
--- for each group what the events cost during which one of its functions stands on their thread's stack
+-- for each group what the events cost on whose thread's stack one of its functions stands, each counted once
 pub record CountOnce (guest : Program) (trace : List RunStep) (p : Contents) (groups : Grouping)
     (costs : List (List ℕ)) : Type 0 where
   pub count : length costs ≡ length groups.cyclic
   pub width : (group : ℕ) → group < length costs → length (slice_index_or costs group []) ≡ length p.events
   pub exact : (group kind : ℕ) → group < length costs → kind < length p.events
-      → slice_index (slice_index_or costs group []) kind ≡ group_once guest trace p groups group kind
+      → slice_index (slice_index_or costs group []) kind
+      ≡ once (λ f. is_member groups group (number_in guest p f)) kind (events_with_stacks trace)

@@ -22,9 +22,10 @@ use Rattle.outside.specs.Load.{bytes_of}
 use Rattle.profile_cli.specs.Calls.{DoesAsked}
 use Rattle.command_steps.specs.Stages.{CameTo, Did}
 use Rattle.profile_cli.specs.Course.{Course}
-use Rattle.command_steps.specs.Loading.{IsLoadIf, HasStatus, input_limit}
+use Rattle.outside.specs.Limits.{text_limit, file_limit}
+use Rattle.command_steps.specs.Loading.{IsLoadIf, HasStatus}
 use Rattle.command_steps.specs.Gates.{Gate, gates_outcome}
-use Rattle.profile_cli.specs.Order.{elf_fault, fault_status, loading, program_limit, reading, run_gate}
+use Rattle.profile_cli.specs.Order.{elf_fault, fault_status, loading, reading, run_gate}
 use Rattle.profile_cli.specs.Program.{IsMapOf, guest_of}
 use Rattle.profile_cli.specs.Reply.{IsRun}
 use Rattle.profile_cli.specs.Stages.{ComesTo, LoadsAndRuns}
@@ -93,9 +94,9 @@ pub record RanToEnd (parts : Program → Writing) (IsSo : Program → Type 0) (o
   pub input : List ℕ
   pub syms : SymbolMap
   pub output : Output
-  pub load : IsLoad old.files (program_of job.args) program_limit old.load_faults new.load_faults (Ok program)
+  pub load : IsLoad old.files (program_of job.args) file_limit old.load_faults new.load_faults (Ok program)
   pub accepted : elf_fault program ≡ None
-  pub fed : IsLoadIf old.files job.input input_limit old.load_faults new.load_faults (Ok input)
+  pub fed : IsLoadIf old.files job.input text_limit old.load_faults new.load_faults (Ok input)
   pub symbols : IsMapOf (image_of program) syms
   pub sound : IsSound syms
   pub fits : Fits (guest_of job (image_of program) input syms)

@@ -1,11 +1,11 @@
 -- What the stages of a run answer that counts what waiting costs.
-use Rattle.std.specs.Prelude.{◌≡◌, ◌⊎◌, ℕ, IfSome, List, [], ◌∷◌, Option, Some, None, Result, Ok, Err}
+use Rattle.std.specs.Prelude.{◌≡◌, ◌⊎◌, ℕ, IfSome, List, [], ◌∷◌, codes, Option, Some, None, Result, Ok, Err}
+use Rattle.std.specs.List.{join_by}
 use Rattle.outside.specs.Files.{Files}
 use Rattle.outside.specs.Outside.{Holds, Log}
 use Rattle.outside.specs.Journal.{Put}
 use Rattle.outside.specs.declared.folder.PutError.{PutError}
 use Rattle.part_dump.specs.Steps.{Step}
-use Rattle.profile_run.specs.Program.{joined_texts}
 use Rattle.wait_report.specs.Keeping.{WaitBooks, nothing}
 use Rattle.wait_report.specs.Rows.{wait_rows}
 use Rattle.wait_report.specs.Standing.{HaveSums, StandsFor}
@@ -31,7 +31,8 @@ pub record CanReport (kept : WaitBooks) : Type 0 where
 -- the text of the report on the steps for which this stands
 abbrev pub IsTextOf : WaitBooks → Job → List ℕ → Type 0
 IsTextOf kept job text =
-    (steps : List Step) → StandsFor kept steps → text ≡ waits_text (joined_texts job.args) job.branches (wait_rows steps)
+    (steps : List Step) → StandsFor kept steps
+    → text ≡ waits_text (join_by (λ text. text) (codes " ") job.args) job.branches (wait_rows steps)
 
 -- the status with which the work stops
 abbrev pub stop_status : Result (Unit {0}) Status → Option Status
