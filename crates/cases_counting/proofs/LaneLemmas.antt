@@ -4,7 +4,7 @@ use Rattle.std.specs.Prelude.{Option}
 use Rattle.std.specs.List.{AllZip}
 use Rattle.std.proofs.lemmas.Bool.{cases_Bool}
 use Rattle.shadow_stack.specs.declared.arena.Head.{Head}
-use Rattle.shadow_stack.specs.declared.arena.Node.{Node}
+use Rattle.shadow_stack.specs.Arenas.{Node}
 use Rattle.shadow_stack.specs.declared.frame.Frame.{Frame}
 use Rattle.shadow_stack.specs.Frames.{restarted_frame, StartWithin}
 use Rattle.shadow_stack.specs.Arenas.{Link, links, frames, frames_in, keys_in, is_in, is_in_chain, AreApart}

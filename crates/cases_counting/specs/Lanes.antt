@@ -1,7 +1,7 @@
 -- Three chains in one arena.
 use Rattle.std.specs.Prelude.{ℕ, List, Option}
 use Rattle.shadow_stack.specs.declared.arena.Head.{Head}
-use Rattle.shadow_stack.specs.declared.arena.Node.{Node}
+use Rattle.shadow_stack.specs.Arenas.{Node}
 use Rattle.shadow_stack.specs.Frames.{StartWithin}
 use Rattle.shadow_stack.specs.Arenas.{frames, AreApart, LiesIn}
 

@@ -11,7 +11,7 @@ use Rattle.std.proofs.lemmas.List.Sums.{fold-append}
 use Rattle.event_costs.specs.declared.numbers.FuncId.{FuncId}
 use Rattle.shadow_stack.specs.Arenas.{frames, frames_in, LiesIn, Link, links, stack_at}
 use Rattle.shadow_stack.specs.declared.arena.Head.{Head}
-use Rattle.shadow_stack.specs.declared.arena.Node.{Node}
+use Rattle.shadow_stack.specs.Arenas.{Node}
 use Rattle.recorder.proofs.Others.{links-none, arc_keys_more, cleared_keys, none_stand, same_arc_laws, sum_at-append}
 use Rattle.recorder.proofs.Others.{sum_at_one, covers_itself, StartWithin-grown, StartWithin-restarted}
 use Rattle.event_costs.specs.Arcs.{Pushed, Closed}

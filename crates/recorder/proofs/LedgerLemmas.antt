@@ -16,7 +16,7 @@ use Rattle.event_costs.specs.declared.numbers.ThreadNo.{ThreadNo}
 use Rattle.shadow_stack.specs.Arenas.{AreApart, frames, frames_in, is_in, is_in_chain, keys_in, LeavesOthers, LiesIn}
 use Rattle.shadow_stack.specs.Arenas.{Link, links, StillLies}
 use Rattle.shadow_stack.specs.declared.arena.Head.{Head}
-use Rattle.shadow_stack.specs.declared.arena.Node.{Node}
+use Rattle.shadow_stack.specs.Arenas.{Node}
 use Rattle.recorder.proofs.Others.{ChangesChainOnly-refl, leaves_others}
 use Rattle.arc_costs.specs.Contents.{Contents}
 use Rattle.arc_costs.specs.Rows.{ArcRow, LineRow}

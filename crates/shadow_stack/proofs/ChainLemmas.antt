@@ -8,8 +8,8 @@ use Rattle.std.proofs.lemmas.Bool.{eqb-true, eq-eqb, or_left, or_right, or_parts
 use Rattle.std.proofs.lemmas.Bool.Decides.{eqb_tells}
 use Rattle.std.proofs.lemmas.List.Sums.{sum_by-set}
 use Rattle.shadow_stack.specs.declared.arena.Head.{Head}
-use Rattle.shadow_stack.specs.declared.arena.Node.{Node}
-use Rattle.shadow_stack.specs.declared.arena.Summary.{Summary}
+use Rattle.shadow_stack.specs.Arenas.{Node}
+use Rattle.shadow_stack.specs.Arenas.{Summary}
 use Rattle.shadow_stack.specs.declared.frame.Frame.{Frame}
 use Rattle.shadow_stack.specs.Kinds.{is_jump, is_root}
 use Rattle.shadow_stack.specs.Stacks.{is_rooted}

@@ -9,3 +9,4 @@ pub mod StayLemmas
 pub mod BaseLemmas
 pub mod TurnLemmas
 pub mod FrameLemmas
+pub mod EntryLemmas

@@ -8,8 +8,8 @@ use Rattle.std.proofs.lemmas.Bool.Decides.{eqb_tells}
 use Rattle.std.proofs.lemmas.List.{length-map}
 use Rattle.std.specs.List.{range_with_len}
 use Rattle.shadow_stack.specs.declared.arena.Head.{Head}
-use Rattle.shadow_stack.specs.declared.arena.Node.{Node}
-use Rattle.shadow_stack.specs.declared.arena.Summary.{Summary}
+use Rattle.shadow_stack.specs.Arenas.{Node}
+use Rattle.shadow_stack.specs.Arenas.{Summary}
 use Rattle.shadow_stack.specs.declared.frame.Frame.{Frame}
 use Rattle.shadow_stack.specs.Stacks.{Stack, is_rooted}
 use Rattle.shadow_stack.specs.declared.frame.Kind.{Kind}

@@ -8,8 +8,8 @@ use Rattle.std.proofs.lemmas.List.{ext_get_or, get_or-set_other, get_or-set_same
 use Rattle.std.proofs.lemmas.List.FromFn.{get_or-map-range_with_len, length-map-range_with_len}
 use Rattle.event_costs.specs.declared.numbers.FuncId.{FuncId}
 use Rattle.shadow_stack.specs.declared.arena.Head.{Head}
-use Rattle.shadow_stack.specs.declared.arena.Node.{Node}
-use Rattle.shadow_stack.specs.declared.arena.Summary.{Summary}
+use Rattle.shadow_stack.specs.Arenas.{Node}
+use Rattle.shadow_stack.specs.Arenas.{Summary}
 use Rattle.shadow_stack.specs.declared.frame.Kind.{Kind}
 use Rattle.shadow_stack.specs.Kinds.{is_jump}
 use Rattle.shadow_stack.specs.Stacks.{Stack}
@@ -211,15 +211,6 @@ turn_is s at node level d lies some is within jumps =
     (ap (λ (m : Summary). get_or m.turns level d) (split s at node lies some is).summary
     ∙ nth (turn_of node.frame.kind (func_of node) (links s (beneath at node))) level d within
     ∙ ap (λ b. cond b (first (parts_at level (func_of node)) (links s (beneath at node))).top 0) jumps)
-
--- a frame knows how deep it lies
-pub depth_is : (s : Slots) (head : Head) (node : Node) → LiesIn s head → 0 < head.depth → node_at s head.top ≡ Some node
-    → head_at head.top node.summary.depth ≡ head
-depth_is s head node lies some is =
-    let sp = split s head node lies some is in
-    let deep : node.summary.depth ≡ head.depth =
-    omega (arith, some, ap (λ (m : Summary). m.depth) sp.summary, sp.beneath.there) in
-    ap (head_at head.top) deep
 
 -- what is beneath a jump
 pub beneath_jump : (s : Slots) (at : Head) (node : Node) → LiesIn s at → 0 < at.depth → node_at s at.top ≡ Some node

@@ -5,14 +5,28 @@ use Rattle.std.specs.Coded.{Coded, Coded-set, code_by, coded_ℕ, coded_bool, co
 use Rattle.std.specs.List.{list_any, range_with_len}
 use Rattle.std.specs.Option.{option_map, option_map_or}
 use Rattle.shadow_stack.specs.declared.arena.Head.{Head}
-use Rattle.shadow_stack.specs.declared.arena.Node.{Node}
-use Rattle.shadow_stack.specs.declared.arena.Summary.{Summary}
 use Rattle.shadow_stack.specs.declared.frame.Frame.{Frame}
 use Rattle.shadow_stack.specs.declared.frame.Kind.{Kind}
 use Rattle.shadow_stack.specs.declared.frame.Kind.TheVariants.{Root, Call, Jump}
 use Rattle.shadow_stack.specs.Kinds.{is_jump}
 use Rattle.shadow_stack.specs.Stacks.{Stack, is_rooted}
 use Rattle.shadow_stack.specs.Frames.{stack, restarted_frame}
+
+-- What a frame knows of the chain from it on down: the least stack pointer of the calls and the greatest, and how many frames
+-- it has; a jump also the key of the frame with which its group begins, and where a search of the group goes on at each
+-- level. Of another frame these are 0.
+pub record Summary : Type 0 where
+  pub least : ℕ
+  pub greatest : ℕ
+  pub depth : ℕ
+  pub base : ℕ
+  pub turns : List ℕ
+
+-- a frame in an arena with the key of the frame beneath, which has no meaning in the lowest frame of a chain
+pub record Node : Type 0 where
+  pub frame : Frame
+  pub below : ℕ
+  pub summary : Summary
 
 -- the node or nothing at each key from 0 on, and how many more nodes fit without memory
 pub record Nodes : Type 0 where

@@ -6,3 +6,4 @@ pub mod Frames
 pub mod Arenas
 pub mod Loans
 pub mod Staying
+pub mod Entries

@@ -1,14 +1,16 @@
 //! The frames of all threads in one arena: each knows the key of the frame beneath it.
 
-ghost use Rattle.std.specs.Prelude.{◌≡◌, ◌↔◌, ◌≢◌, ℕ, ◌+◌, ◌<◌, ◌≤◌, [], ◌∷◌, Some, None, OnOk, true, false, suc, ◌==◌, ◌^◌};
-ghost use Rattle.shadow_stack.specs.Arenas.{node_at, frames, LiesIn, ChangesChainOnly, StillLies, beneath, above};
-ghost use Rattle.shadow_stack.specs.Arenas.{stack_at, links, base_beneath, base_in, summary_of, AreRestarted};
+ghost use Rattle.std.specs.Prelude.{◌≡◌, ◌↔◌, ◌≢◌, ℕ, ◌+◌, ◌<◌, ◌≤◌, [], ◌∷◌, Some, None, OnOk, true, false, suc, ◌==◌, ◌^◌, drop};
+ghost use Rattle.shadow_stack.specs.Arenas.{node_at, frames, LiesIn, ChangesChainOnly, StillLies, above};
+ghost use Rattle.shadow_stack.specs.Arenas.{stack_at, links, base_in, Node, AreRestarted};
 ghost use Rattle.shadow_stack.specs.Arenas.{agree, bit, first, greatest_sp, IsStep, least_sp, parts_at, same, turns_of};
+ghost use Rattle.shadow_stack.specs.Entries.{beneath_entry, Forgets, Keeps, lead_key, lead_of, top_node};
 ghost use Rattle.shadow_stack.specs.Changes.{down_to};
 ghost use Rattle.shadow_stack.specs.declared.arena.Head.{Head as HeadValue};
 ghost use Rattle.shadow_stack.specs.Frames.{activation};
 ghost use Rattle.shadow_stack.specs.Kinds.{is_jump};
 ghost use Rattle.shadow_stack.specs.Stacks.{is_rooted, is_top};
+ghost use Rattle.slab.specs.Slab.{ContainsKey, HasRoomFor};
 
 use crate::frame::{Frame, Kind};
 use byte_text::OutOfMemory;
@@ -17,24 +19,26 @@ use slab::Slab;
 use std::alloc::Global;
 use std::marker::Model;
 
-/// A frame in an arena.
+/// A frame in an arena, and what it knows of the chain from it on down, which stops a search.
 #[derive(Debug, Drop)]
-pub struct Node {
+pub struct Entry {
     pub frame: Frame,
     /// The key of the frame beneath; of no meaning in the lowest frame of a chain.
     pub below: usize,
-    pub summary: Summary,
-}
-
-/// What a frame knows of the chain from it on down. It stops a search, and leads over a whole group.
-#[derive(Clone, Copy, Debug)]
-pub struct Summary {
     /// The least stack pointer of the calls, and the greatest.
     pub least: u32,
     pub greatest: u32,
     /// How many frames it has.
     pub depth: usize,
-    /// The key of the frame with which the group of this jump begins; 0 of a frame that is no jump.
+    /// The key of what a jump knows of its group; of no meaning in another frame. It stands apart, since most frames are
+    /// calls.
+    pub lead: usize,
+}
+
+/// What a jump knows of its group. It leads over the whole of it.
+#[derive(Clone, Copy, Debug)]
+pub struct Lead {
+    /// The key of the frame with which the group begins.
     pub base: usize,
     /// Of the frames of its group beneath this jump, the keys of the highest one whose function parts from this one's at
     /// each level, or of the one with which the group begins where none does. A search of the group goes on there.
@@ -92,13 +96,13 @@ impl Head {
     /// A chain without frames.
     pub(crate) const EMPTY: Head = Head { top: 0, depth: 0 };
 
-    /// What is beneath the top, whose node this is.
-    pub fn beneath(self, node: &Node) -> Head
+    /// What is beneath the top, whose entry this is.
+    pub fn beneath(self, entry: &Entry) -> Head
         requires { 0 < self.depth }
-        ensures { result ≡ beneath self node.now }
+        ensures { result ≡ beneath_entry self entry.now }
     {
         Head {
-            top: node.below,
+            top: entry.below,
             depth: self.depth - 1,
         }
     }
@@ -118,19 +122,46 @@ impl Head {
 /// Frames of any number of chains. Contracts see the node or nothing at each key, and how many more fit without memory.
 #[derive(Drop)]
 pub struct Arena {
-    nodes: Slab<Node>,
+    entries: Slab<Entry>,
+    leads: Slab<Lead>,
+    /// So many frames of any kind fit without memory.
+    room: usize,
+}
+
+/// Keeps what a frame that is put on a chain knows of its group, under the vacant key.
+fn keep(leads: &mut Slab<Lead>, lead: Option<Lead>)
+    requires { HasRoomFor leads.old 1 }
+    ensures { Keeps lead leads.old leads.new }
+{
+    if let Some(lead) = lead {
+        leads.insert_reserved(lead);
+    }
+}
+
+/// Forgets what a frame that is taken off a chain knew of its group.
+fn forget(leads: &mut Slab<Lead>, entry: &Entry)
+    requires { is_jump entry.now.frame.kind ≡ true → ContainsKey leads.old entry.now.lead }
+    ensures { Forgets (lead_key entry.now) leads.old leads.new }
+{
+    if entry.frame.kind.is_jump() {
+        leads.remove(entry.lead);
+    }
 }
 
 impl Model for Arena {
     ghost use Rattle.std.specs.Prelude.{◌-◌, ◌≤◌};
     ghost use Rattle.slab.specs.Slab.{slab_len};
     ghost use Rattle.shadow_stack.specs.Arenas.{Nodes};
+    ghost use Rattle.shadow_stack.specs.Entries.{AreKept, nodes_with};
 
     ghost Value = { Nodes };
 
-    ghost view = { λ a. record { slots = a.nodes.slots; spare = a.nodes.capacity - slab_len a.nodes } };
+    ghost view = { λ a. record {
+      slots = nodes_with a.leads.slots a.entries.slots;
+      spare = a.room - slab_len a.entries;
+    } };
 
-    ghost invariant = { λ a. slab_len a.nodes ≤ a.nodes.capacity };
+    ghost invariant = { λ a. AreKept a.leads a.entries a.room };
 }
 
 impl Arena {
@@ -140,7 +171,9 @@ impl Arena {
         ensures room { result.spare ≡ 0 }
     {
         Arena {
-            nodes: Slab::new(alloc),
+            entries: Slab::new(alloc),
+            leads: Slab::new(alloc),
+            room: 0,
         }
     }
 
@@ -149,7 +182,7 @@ impl Arena {
     pub fn has_room(&self) -> bool
         ensures { result ≡ true ↔ 1 ≤ self.now.spare }
     {
-        self.nodes.len() < self.nodes.capacity()
+        self.entries.len() < self.room
     }
 
     /// Makes room for one more frame.
@@ -158,7 +191,13 @@ impl Arena {
         ensures kept { self.old.spare ≤ self.new.spare }
         ensures same { self.new.slots ≡ self.old.slots }
     {
-        self.nodes.reserve(1)?;
+        if self.has_room() {
+            return Ok(());
+        }
+        self.entries.reserve(1)?;
+        let most = self.entries.capacity();
+        self.leads.reserve(most - self.leads.len())?;
+        self.room = most;
         Ok(())
     }
 
@@ -184,18 +223,29 @@ impl Arena {
         self.push(Head::EMPTY, frame)
     }
 
-    /// The node of the top frame.
-    pub(crate) fn top(&self, head: Head) -> &Node
+    /// The entry of the top frame.
+    pub(crate) fn top(&self, head: Head) -> &Entry
         requires lies { LiesIn self.now.slots head }
         requires some { 0 < head.depth }
-        ensures node { node_at self.now.slots head.top ≡ Some result.now }
+        ensures node { node_at self.now.slots head.top ≡ Some (top_node self.now.slots head result.now) }
         ensures frames { frames self.now.slots head
-            ≡ result.now.frame ∷ frames self.now.slots (beneath head result.now) }
-        ensures beneath { LiesIn self.now.slots (beneath head result.now) }
-        ensures summary { result.now.summary
-            ≡ summary_of result.now.frame.kind result.now.frame.func.0 (links self.now.slots (beneath head result.now)) }
+            ≡ result.now.frame ∷ frames self.now.slots (beneath_entry head result.now) }
+        ensures beneath { LiesIn self.now.slots (beneath_entry head result.now) }
+        ensures least { result.now.least ≡ least_sp (frames self.now.slots head) }
+        ensures greatest { result.now.greatest ≡ greatest_sp (frames self.now.slots head) }
     {
-        &self.nodes[head.top]
+        &self.entries[head.top]
+    }
+
+    /// What the top frame, a jump, knows of its group.
+    fn lead(&self, head: Head) -> &Lead
+        requires { (node : Node) × (node_at self.now.slots head.top ≡ Some node) × (is_jump node.frame.kind ≡ true) }
+        ensures base { (node : Node) → node_at self.now.slots head.top ≡ Some node
+            → result.now.base ≡ node.summary.base }
+        ensures turns { (node : Node) → node_at self.now.slots head.top ≡ Some node
+            → result.now.turns ≡ node.summary.turns }
+    {
+        &self.leads[self.entries[head.top].lead]
     }
 
     /// The chain from the frame at this key on.
@@ -205,7 +255,7 @@ impl Arena {
     {
         Head {
             top: key,
-            depth: self.nodes[key].summary.depth,
+            depth: self.entries[key].depth,
         }
     }
 
@@ -215,29 +265,27 @@ impl Arena {
         requires some { 0 < head.depth }
         ensures { result ≡ base_in (links self.now.slots head) }
     {
-        let node = self.top(head);
-        if node.frame.kind.is_jump() {
-            self.chain_from(node.summary.base)
+        let entry = self.top(head);
+        if entry.frame.kind.is_jump() {
+            self.chain_from(self.lead(head).base)
         } else {
             head
         }
     }
 
-    /// What a frame of this kind and function on a chain knows of it.
-    fn summary(&self, head: Head, kind: Kind, func: FuncId) -> Summary
+    /// What a frame of this kind and function on a chain knows of its group.
+    fn lead_of(&self, head: Head, kind: Kind, func: FuncId) -> Option<Lead>
         requires lies { LiesIn self.now.slots head }
         requires rooted { is_jump kind ≡ true → 0 < head.depth }
-        requires deep { head.depth + 1 < 2 ^ 64 }
-        ensures { result ≡ summary_of kind func.0 (links self.now.slots head) }
+        ensures { result ≡ lead_of kind func.0 (links self.now.slots head) }
     {
-        let (least, greatest) = self.bounds(head);
-        Summary {
-            least: kind.least_with(least),
-            greatest: kind.greatest_with(greatest),
-            depth: head.depth + 1,
-            base: self.base_beneath(head, kind),
-            turns: self.turns(head, kind, func),
+        if !kind.is_jump() {
+            return None;
         }
+        Some(Lead {
+            base: self.base(head).top,
+            turns: self.turns(head, func),
+        })
     }
 
     /// The least stack pointer of the calls of a chain, and the greatest.
@@ -249,20 +297,17 @@ impl Arena {
         if head.depth == 0 {
             return (u32::MAX, 0);
         }
-        let summary = &self.top(head).summary;
-        (summary.least, summary.greatest)
+        let entry = self.top(head);
+        (entry.least, entry.greatest)
     }
 
-    /// The turns of a frame of this kind and function on a chain.
-    fn turns(&self, head: Head, kind: Kind, func: FuncId) -> [usize; TURNS]
+    /// The turns of a jump of this function on a chain.
+    fn turns(&self, head: Head, func: FuncId) -> [usize; TURNS]
         requires lies { LiesIn self.now.slots head }
-        requires rooted { is_jump kind ≡ true → 0 < head.depth }
-        ensures { result ≡ turns_of kind func.0 (links self.now.slots head) }
+        requires some { 0 < head.depth }
+        ensures { result ≡ turns_of Kind.Jump func.0 (links self.now.slots head) }
     {
         let mut turns = [0; TURNS];
-        if !kind.is_jump() {
-            return turns;
-        }
         let mut at = head;
         'levels: for level in 0..LEVELS {
             let step = self.step(at, level, func);
@@ -281,15 +326,15 @@ impl Arena {
         requires found { first (agree level func.0) (links self.now.slots at) ≡ at }
         ensures { IsStep self.now.slots func.0 level at result.turn result.next }
     {
-        let node = self.top(at);
-        if !node.frame.kind.is_jump() {
+        let entry = self.top(at);
+        if !entry.frame.kind.is_jump() {
             return Step {
                 turn: at.top,
                 next: at,
             };
         }
-        let turn = node.summary.turns[level];
-        if same_bit(func, node.frame.func, level) {
+        let turn = self.lead(at).turns[level];
+        if same_bit(func, entry.frame.func, level) {
             Step { turn, next: at }
         } else {
             Step {
@@ -308,24 +353,12 @@ impl Arena {
         ensures found { down_to func (stack_at self.now.slots result) ≡ down_to func (stack_at self.now.slots at) }
         ensures shorter { result.depth < at.depth }
     {
-        let node = self.top(at);
-        if !node.frame.kind.is_jump() {
+        let entry = self.top(at);
+        if !entry.frame.kind.is_jump() {
             return Head::EMPTY;
         }
-        let level = parting(node.frame.func, func);
-        self.chain_from(node.summary.turns[level])
-    }
-
-    /// The key of the frame with which the group of a frame of this kind on a chain begins; 0 but for a jump.
-    fn base_beneath(&self, head: Head, kind: Kind) -> usize
-        requires lies { LiesIn self.now.slots head }
-        requires rooted { is_jump kind ≡ true → 0 < head.depth }
-        ensures { result ≡ base_beneath kind (links self.now.slots head) }
-    {
-        if !kind.is_jump() {
-            return 0;
-        }
-        self.base(head).top
+        let level = parting(entry.frame.func, func);
+        self.chain_from(self.lead(at).turns[level])
     }
 
     /// Puts a frame on a chain.
@@ -341,31 +374,37 @@ impl Arena {
         ensures chain { ChangesChainOnly self.old.slots head self.new.slots result }
         ensures room { self.new.spare + 1 ≡ self.old.spare }
     {
-        prove!(self.nodes.len() < self.nodes.capacity());
-        let summary = self.summary(head, frame.kind, frame.func);
+        prove!(self.entries.len() < self.room);
+        let (least, greatest) = self.bounds(head);
+        let lead = self.lead_of(head, frame.kind, frame.func);
         // Named, so that the checker knows its type.
         let from: Option<ArcKey> = frame.from;
-        let node = Node {
+        let entry = Entry {
             frame: Frame { from, ..frame },
             below: head.top,
-            summary,
+            least: frame.kind.least_with(least),
+            greatest: frame.kind.greatest_with(greatest),
+            depth: head.depth + 1,
+            lead: self.leads.vacant_key(),
         };
-        let key = self.nodes.insert_reserved(node);
+        let key = self.entries.insert_reserved(entry);
+        keep(&mut self.leads, lead);
         head.above(key)
     }
 
     /// Takes the top frame off a chain.
-    pub(crate) fn pop(&mut self, head: Head) -> (Frame, Head)
+    pub(crate) fn pop(&mut self, head: Head) -> Head
         requires lies { LiesIn self.old.slots head }
         requires some { 0 < head.depth }
-        ensures lies { LiesIn self.new.slots result.1 }
-        ensures frames { frames self.old.slots head ≡ result.0 ∷ frames self.new.slots result.1 }
-        ensures depth { result.1.depth + 1 ≡ head.depth }
-        ensures chain { ChangesChainOnly self.old.slots head self.new.slots result.1 }
+        ensures lies { LiesIn self.new.slots result }
+        ensures frames { frames self.new.slots result ≡ drop 1 (frames self.old.slots head) }
+        ensures depth { result.depth + 1 ≡ head.depth }
+        ensures chain { ChangesChainOnly self.old.slots head self.new.slots result }
         ensures room { self.new.spare ≡ self.old.spare + 1 }
     {
-        let node = self.nodes.remove(head.top);
-        (node.frame, head.beneath(&node))
+        let entry = self.entries.remove(head.top);
+        forget(&mut self.leads, &entry);
+        head.beneath(&entry)
     }
 
     /// Gives the top frame another start.
@@ -375,7 +414,7 @@ impl Arena {
         ensures nodes { AreRestarted (λ key. key == head.top) total.now self.old.slots self.new.slots }
         ensures room { self.new.spare ≡ self.old.spare }
     {
-        let node = &mut self.nodes[head.top];
-        node.frame.start = *total;
+        let entry = &mut self.entries[head.top];
+        entry.frame.start = *total;
     }
 }

@@ -44,9 +44,9 @@ pub fn close<S: ArcSink>(
 {
     let mut at = head;
     'closed: while at.depth > depth {
-        let (frame, beneath) = arena.pop(at);
+        let frame = arena.top(at).frame;
         tell(&frame, total, sink);
-        at = beneath;
+        at = arena.pop(at);
     }
     at
 }

@@ -23,10 +23,10 @@ fn beneath_call(arena: &Arena, head: Head, event: &Event) -> Option<Head>
     let mut at = head;
     'sought: while at.depth > 0 {
         let node = arena.top(at);
-        if event.done.sp < node.summary.least {
+        if event.done.sp < node.least {
             return None;
         }
-        if event.done.sp > node.summary.greatest {
+        if event.done.sp > node.greatest {
             return None;
         }
         at = at.beneath(node);

@@ -17,7 +17,7 @@ use Rattle.shadow_stack.specs.Arenas.{AreApart, frames, LiesIn}
 use Rattle.shadow_stack.specs.Frames.{pushed_activation, restarted_frames, stack, StartWithin}
 use Rattle.shadow_stack.specs.Kinds.{is_root}
 use Rattle.shadow_stack.specs.Stacks.{most_frames}
-use Rattle.shadow_stack.specs.declared.arena.Node.{Node}
+use Rattle.shadow_stack.specs.Arenas.{Node}
 use Rattle.shadow_stack.specs.declared.frame.Frame.{Frame}
 use Rattle.recorder.specs.Accounts.{Account, Ledger}
 use Rattle.recorder.specs.Notes.{open_sum}

@@ -4,6 +4,7 @@ use Rattle.shadow_stack.specs.declared.arena.Head.{Head}
 use Rattle.shadow_stack.specs.declared.frame.Frame.{Frame}
 use Rattle.shadow_stack.specs.Frames.{closing, closings, StartWithin}
 use Rattle.shadow_stack.specs.Arenas.{frames, beneath, is_in_chain, LiesIn, AreRestarted}
+use Rattle.shadow_stack.specs.Entries.{top_node}
 use Rattle.shadow_stack.proofs.ChainLemmas.{in_chain-split}
 use Rattle.shadow_stack.proofs.RestartLemmas.{left_lies, next_of, IsNext, one_more, none_done, whole_done, is_between}
 use Rattle.shadow_stack.proofs.TellingLemmas.{TakesAll-append, takes_later, StartWithin-tail}
@@ -33,9 +34,9 @@ restart_top-requires-clause-lies g c =
 
 pub tell-requires-clause-within : goal.tell-requires-clause-within
 tell-requires-clause-within g c =
-    let next : IsNext c.args.total.now c.args.arena.now.slots c.restarted.at c.top-node.result.now =
+    let next : IsNext c.args.total.now c.args.arena.now.slots c.restarted.at (top_node c.restarted.arena.slots c.restarted.at c.top-node.result.now) =
     next_of c.args.total.now c.args.arena.now.slots c.restarted.arena.slots c.args.head c.restarted.at
-    c.top-node.result.now c.restarted.invariant.lies c.restarted-test.true c.restarted.invariant.nodes
+    (top_node c.restarted.arena.slots c.restarted.at c.top-node.result.now) c.restarted.invariant.lies c.restarted-test.true c.restarted.invariant.nodes
     c.top-node.ensures.node in
     (subst
     (λ (fs : List Frame). StartWithin c.args.total.now fs) next.frames_are c.restarted.invariant.starts) 0
@@ -43,12 +44,12 @@ tell-requires-clause-within g c =
 
 pub tell-requires-clause-tellings : goal.tell-requires-clause-tellings
 tell-requires-clause-tellings g c =
-    let next : IsNext c.args.total.now c.args.arena.now.slots c.restarted.at c.top-node.result.now =
+    let next : IsNext c.args.total.now c.args.arena.now.slots c.restarted.at (top_node c.restarted.arena.slots c.restarted.at c.top-node.result.now) =
     next_of c.args.total.now c.args.arena.now.slots c.restarted.arena.slots c.args.head c.restarted.at
-    c.top-node.result.now c.restarted.invariant.lies c.restarted-test.true c.restarted.invariant.nodes
+    (top_node c.restarted.arena.slots c.restarted.at c.top-node.result.now) c.restarted.invariant.lies c.restarted-test.true c.restarted.invariant.nodes
     c.top-node.ensures.node in
     g.met.S.ArcSink.takes_front c.restarted.sink (closing c.args.total.now c.top-node.result.now.frame)
-    (closings c.args.total.now (frames c.args.arena.now.slots (beneath c.restarted.at c.top-node.result.now)))
+    (closings c.args.total.now (frames c.args.arena.now.slots (beneath c.restarted.at (top_node c.restarted.arena.slots c.restarted.at c.top-node.result.now))))
     (subst
     (λ (ts : List Telling). g.S.ArcSink.can_take c.restarted.sink ts) next.tellings_are c.restarted.invariant.can_take)
 
@@ -56,11 +57,11 @@ pub restarted-preserved : goal.restarted-preserved
 restarted-preserved g c =
     let old = c.args.arena.now.slots in
     let at = c.restarted.at in
-    let node = c.top-node.result.now in
+    let node = top_node c.restarted.arena.slots at c.top-node.result.now in
     let total = c.args.total.now in
-    let back : beneath c.restarted.at c.top-node.result.now ≡ c.beneath-beneath.result
+    let back : beneath c.restarted.at (top_node c.restarted.arena.slots c.restarted.at c.top-node.result.now) ≡ c.beneath-beneath.result
     = sym c.beneath-beneath.ensures in
-    let next : IsNext c.args.total.now c.args.arena.now.slots c.restarted.at c.top-node.result.now =
+    let next : IsNext c.args.total.now c.args.arena.now.slots c.restarted.at (top_node c.restarted.arena.slots c.restarted.at c.top-node.result.now) =
     next_of total old c.restarted.arena.slots c.args.head at node c.restarted.invariant.lies c.restarted-test.true
     c.restarted.invariant.nodes c.top-node.ensures.node in
     let takes = g.S.ArcSink.takes in

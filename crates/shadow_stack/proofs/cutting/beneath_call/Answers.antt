@@ -1,6 +1,5 @@
 use Rattle.std.proofs.Common.{sym, ◌∙◌, arith}
 use Rattle.shadow_stack.specs.Arenas.{frames}
-use Rattle.shadow_stack.proofs.ChainLemmas.{split, least-top, greatest-top}
 use Rattle.shadow_stack.proofs.SearchLemmas.{no_call_above, no_call_below}
 use Rattle.shadow_stack.proofs.cutting.beneath_call.Goals as goal
 
@@ -8,18 +7,12 @@ pub returns-then-event-node-clause-found : goal.returns-then-event-node-clause-f
 returns-then-event-node-clause-found c =
     let slots = c.args.arena.now.slots in
     let at = c.sought.at in
-    let node = c.top-node.result.now in
-    let least = least-top slots at node c.sought-test.true (split slots at node c.sought.invariant.lies
-    c.sought-test.true c.top-node.ensures.node) in
-    sym (no_call_below c.args.event.now (frames slots at) (omega (arith, least, c.if-event-node.true)))
+    sym (no_call_below c.args.event.now (frames slots at) (omega (arith, c.top-node.ensures.least, c.if-event-node.true)))
     ∙ c.sought.invariant.left
 
 pub returns-then-event-node-2-clause-found : goal.returns-then-event-node-2-clause-found
 returns-then-event-node-2-clause-found c =
     let slots = c.args.arena.now.slots in
     let at = c.sought.at in
-    let node = c.top-node.result.now in
-    let greatest = greatest-top slots at node c.sought-test.true (split slots at node c.sought.invariant.lies
-    c.sought-test.true c.top-node.ensures.node) in
-    sym (no_call_above c.args.event.now (frames slots at) (omega (arith, greatest, c.if-event-node-2.true)))
+    sym (no_call_above c.args.event.now (frames slots at) (omega (arith, c.top-node.ensures.greatest, c.if-event-node-2.true)))
     ∙ c.sought.invariant.left

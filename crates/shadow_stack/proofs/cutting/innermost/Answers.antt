@@ -4,6 +4,7 @@ use Rattle.shadow_stack.specs.declared.frame.Frame.{Frame}
 use Rattle.shadow_stack.specs.Stacks.{base_of, groups, rest_of}
 use Rattle.shadow_stack.specs.Frames.{activation, stack}
 use Rattle.shadow_stack.specs.Arenas.{beneath, stack_at}
+use Rattle.shadow_stack.specs.Entries.{top_node}
 use Rattle.shadow_stack.proofs.BaseLemmas.{begins_with, first_base, first_rest}
 use Rattle.shadow_stack.proofs.cutting.innermost.Goals as goal
 
@@ -29,7 +30,7 @@ pub returns-clause-base : goal.returns-clause-base
 returns-clause-base c =
     let b = begins_with c.args.arena.now.slots c.args.head c.base-base.result c.base-base.ensures c.requires.lies
     c.requires.some in
-    let node = c.top-node.result.now in
+    let node = top_node c.args.arena.now.slots c.base-base.result c.top-node.result.now in
     let rest = groups (stack_at c.args.arena.now.slots (beneath c.base-base.result node)) in
     first_base (activation node.frame) rest (b.first node c.top-node.ensures.node)
     ∙ sym (ap (λ (fs : List Frame). base_of (groups (stack fs))) c.top-node.ensures.frames)
@@ -39,7 +40,7 @@ pub returns-clause-rest : goal.returns-clause-rest
 returns-clause-rest c =
     let b = begins_with c.args.arena.now.slots c.args.head c.base-base.result c.base-base.ensures c.requires.lies
     c.requires.some in
-    let node = c.top-node.result.now in
+    let node = top_node c.args.arena.now.slots c.base-base.result c.top-node.result.now in
     let rest = groups (stack_at c.args.arena.now.slots (beneath c.base-base.result node)) in
     ap (λ (h : Head). groups (stack_at c.args.arena.now.slots h)) c.beneath.ensures
     ∙ first_rest (activation node.frame) rest (b.first node c.top-node.ensures.node)

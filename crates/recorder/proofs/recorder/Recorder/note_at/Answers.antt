@@ -4,7 +4,7 @@ use Rattle.std.proofs.Common.{if◌then◌else◌}
 use Rattle.sym_map.specs.SymbolMap.{place_of}
 use Rattle.event_costs.specs.declared.numbers.ThreadNo.{ThreadNo}
 use Rattle.shadow_stack.specs.Arenas.{frames, LeavesOthers}
-use Rattle.shadow_stack.specs.declared.arena.Node.{Node}
+use Rattle.shadow_stack.specs.Arenas.{Node}
 use Rattle.shadow_stack.specs.Frames.{count_pushed, pushed_activation, stack}
 use Rattle.shadow_stack.specs.Stacks.{top_of}
 use Rattle.arc_costs.specs.Lines.{has_line}

@@ -1,7 +1,7 @@
 use Rattle.std.proofs.Common.{◌≡◌, ◌<◌, List, length, get_or, Option, map, set, ap, sym, subst, ◌∙◌, arith, refl}
 use Rattle.std.proofs.Common.{Result, Ok, Err, OnOk}
 use Rattle.shadow_stack.specs.Arenas.{LeavesOthers}
-use Rattle.shadow_stack.specs.declared.arena.Node.{Node}
+use Rattle.shadow_stack.specs.Arenas.{Node}
 use Rattle.recorder.specs.Accounts.{account, ledger, Ledger, Recording}
 use Rattle.recorder.specs.inner.Books.{account_in, entered_in, IsSoundBook, ledger_of}
 use Rattle.recorder.specs.inner.Places.{IsAt}

@@ -4,7 +4,7 @@ use Rattle.event_costs.specs.Costs.{no_cost}
 use Rattle.event_costs.specs.Keys.{Place}
 use Rattle.shadow_stack.specs.Arenas.{LiesIn, StillLies}
 use Rattle.shadow_stack.specs.declared.arena.Head.{Head}
-use Rattle.shadow_stack.specs.declared.arena.Node.{Node}
+use Rattle.shadow_stack.specs.Arenas.{Node}
 use Rattle.shadow_stack.specs.declared.frame.Kind.TheVariants.{Root}
 use Rattle.shadow_stack.specs.Stacks.{root}
 use Rattle.event_costs.specs.declared.numbers.ThreadNo.{ThreadNo}

@@ -1,6 +1,6 @@
 use Rattle.std.proofs.Common.{◌≡◌, ◌<◌, List, length, get_or, Option, map, set, ap, sym, subst, ◌∙◌, arith, refl, IfOk}
 use Rattle.shadow_stack.specs.Arenas.{LeavesOthers}
-use Rattle.shadow_stack.specs.declared.arena.Node.{Node}
+use Rattle.shadow_stack.specs.Arenas.{Node}
 use Rattle.recorder.specs.Accounts.{Account, ledger, Ledger, Recording}
 use Rattle.recorder.specs.Notes.{account_after_cut}
 use Rattle.recorder.specs.Standing.{IsCutOf, last_events_on_stack, SameSums}

@@ -1,6 +1,6 @@
-use Rattle.std.proofs.Common.{◌<◌, ap, sym, arith, List}
+use Rattle.std.proofs.Common.{ap, sym, arith, List}
 use Rattle.shadow_stack.specs.Arenas.{frames_in, greatest_sp, least_sp, Link}
-use Rattle.shadow_stack.proofs.ChainLemmas.{greatest-top, least-top, links-none, split}
+use Rattle.shadow_stack.proofs.ChainLemmas.{links-none}
 use Rattle.shadow_stack.proofs.arena.Arena.bounds.Goals as goal
 
 pub returns-then-head-eq0-clause-least : goal.returns-then-head-eq0-clause-least
@@ -12,15 +12,3 @@ pub returns-then-head-eq0-clause-greatest : goal.returns-then-head-eq0-clause-gr
 returns-then-head-eq0-clause-greatest c =
     sym (ap (λ (ls : List Link). greatest_sp (frames_in ls))
     (links-none c.args.self.now.slots c.args.head (omega (arith, c.if-head-eq0.true))))
-
-pub returns-clause-least : goal.returns-clause-least
-returns-clause-least c =
-    let some : 0 < c.args.head.depth = omega (arith, c.if-head-eq0.false) in
-    least-top c.args.self.now.slots c.args.head c.top.result.now some
-    (split c.args.self.now.slots c.args.head c.top.result.now c.requires some c.top.ensures.node)
-
-pub returns-clause-greatest : goal.returns-clause-greatest
-returns-clause-greatest c =
-    let some : 0 < c.args.head.depth = omega (arith, c.if-head-eq0.false) in
-    greatest-top c.args.self.now.slots c.args.head c.top.result.now some
-    (split c.args.self.now.slots c.args.head c.top.result.now c.requires some c.top.ensures.node)
