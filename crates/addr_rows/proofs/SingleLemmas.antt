@@ -23,7 +23,7 @@ use Rattle.arc_costs.proofs.RowLemmas.{filter-map}
 use Rattle.recorder.specs.Rows as events
 use Rattle.recorder.specs.Rows.{rows_of}
 use Rattle.recorder.specs.Sums as sums
-use Rattle.ctx_rows.specs.Contexts.{Context, context}
+use Rattle.contexts.specs.Contexts.{Context, context}
 use Rattle.ctx_rows.specs.Folding.{plain, plain_arc, plain_line}
 use Rattle.ctx_rows.specs.Rows.{arc_with, arcs_at, ctx_rows_of, is_some_arc, is_some_line, line_with}
 use Rattle.ctx_rows.specs.Since.{AreEntered, StandsOn}

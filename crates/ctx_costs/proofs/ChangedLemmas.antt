@@ -17,7 +17,7 @@ use Rattle.shadow_stack.proofs.StayLemmas as stay
 use Rattle.recorder.proofs.EnteredLemmas as stacks
 use Rattle.arc_costs.specs.Arcs.{call_sum}
 use Rattle.recorder.specs.inner.Tellers.{RowsAfterTellings}
-use Rattle.ctx_rows.specs.Contexts.{Context, context, context_at, number, with_context}
+use Rattle.contexts.specs.Contexts.{Context, context, context_at, number, with_context}
 use Rattle.ctx_rows.specs.States.{contexts_with, entered_frame, entering_arc, kept_track_frames, pushed_frame}
 use Rattle.ctx_rows.specs.States.{top_number}
 use Rattle.ctx_rows.specs.Tracks.{AreNumbered}

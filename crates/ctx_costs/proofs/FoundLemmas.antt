@@ -19,7 +19,7 @@ use Rattle.arc_costs.proofs.KindLemmas.{cost_is}
 use Rattle.arc_costs.proofs.RiseLemmas as rise
 use Rattle.recorder.proofs.RowLemmas as row
 use Rattle.ctx_costs.proofs.Others.{from_map, at_apart}
-use Rattle.ctx_rows.specs.Contexts.{Context, context_at, AreDistinct}
+use Rattle.contexts.specs.Contexts.{Context, context_at, AreDistinct}
 use Rattle.ctx_rows.specs.Telling.{named_arc, named_line}
 use Rattle.ctx_rows.specs.Rows.{arc_of, arc_sum, arc_with, call_sum, is_some_arc, is_some_line, line_sum, line_with}
 use Rattle.ctx_rows.specs.Rows.{place_of}

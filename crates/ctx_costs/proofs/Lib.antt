@@ -5,7 +5,6 @@ pub mod ClosingLemmas
 pub mod OpeningLemmas
 pub mod SummedLemmas
 pub mod SoundLemmas
-pub mod KeyLemmas
 pub mod FoundLemmas
 pub mod WatchLemmas
 pub mod ChangedLemmas

@@ -3,8 +3,8 @@ pub use Rattle.arc_costs.proofs.ArcLemmas.{cleared_keys, none_stand, same_arc_la
 pub use Rattle.ctx_rows.proofs.FrameLemmas.{cut_again, kept_stack, numbered_kept, numbered_more, numbered_restarted}
 pub use Rattle.ctx_rows.proofs.FrameLemmas.{numbered_top, read_there, starts_with, with_context_more, within_list}
 pub use Rattle.ctx_rows.proofs.NamedLemmas.{contains_from_in, in_from_contains}
-pub use Rattle.ctx_rows.proofs.NumberLemmas.{at_apart, context_alike, context_itself, none_place, number_is, place}
-pub use Rattle.ctx_rows.proofs.NumberLemmas.{swapped, true_false}
+pub use Rattle.contexts.proofs.NumberLemmas.{at_apart, context_alike, context_itself, none_place, number_is, place}
+pub use Rattle.contexts.proofs.NumberLemmas.{swapped, true_false}
 pub use Rattle.recorder.proofs.ArcRowLemmas.{arc_alike, arc_itself}
 pub use Rattle.recorder.proofs.BookLemmas.{StartWithin-take, can_tell_cut, line_more, sorted_some, starts_grown}
 pub use Rattle.recorder.proofs.BookLemmas.{whole_sum}

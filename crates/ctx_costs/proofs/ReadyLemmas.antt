@@ -13,9 +13,8 @@ use Rattle.sym_map.specs.SymbolMap.{SymbolMap, place_of}
 use Rattle.shadow_stack.specs.Stacks.{root}
 use Rattle.recorder.specs.Laws.{AreApart, IsIn}
 use Rattle.ctx_costs.proofs.Others.{any-map, number_is, swapped, true_false}
-use Rattle.ctx_rows.specs.Contexts.{Context, context, same_context, has_context, number, with_context, AreDistinct}
+use Rattle.contexts.specs.Contexts.{Context, context, same_context, has_context, number, with_context, AreDistinct, Held}
 use Rattle.ctx_rows.specs.States.{CtxState, Track, after_ready, first_track, is_track_of, knows, with_started}
-use Rattle.ctx_costs.specs.inner.Keys.{Held}
 use Rattle.ctx_costs.specs.inner.Tracks.{Book, HasBegun, IsFramed, IsKept, IsReadyFor, IsRoomy, IsSound, IsWatching}
 use Rattle.ctx_costs.specs.inner.Tracks.{track_of}
 use Rattle.ctx_costs.proofs.SummedLemmas.{begun_summed}

@@ -20,7 +20,7 @@ use Rattle.ctx_costs.proofs.Others.{closings_calls, closings_costs, in_filter, c
 use Rattle.recorder.proofs.ArcRowLemmas as plain_arcs
 use Rattle.recorder.proofs.LineLemmas as plain
 use Rattle.arc_costs.proofs.RiseLemmas as rise
-use Rattle.ctx_rows.specs.Contexts.{Context, AreDistinct}
+use Rattle.contexts.specs.Contexts.{Context, AreDistinct}
 use Rattle.ctx_rows.specs.Telling.{rows_in, rows_of_track}
 use Rattle.ctx_rows.specs.Rows.{CtxListed, arc_of, place_of}
 use Rattle.ctx_rows.specs.Sums.{arc_order, place_order, same_arc, same_place}

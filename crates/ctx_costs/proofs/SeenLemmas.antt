@@ -18,12 +18,11 @@ use Rattle.event_costs.specs.Order.{same_place}
 use Rattle.arc_costs.specs.Rows.{LineRow}
 use Rattle.ctx_costs.proofs.Others.{cleared_keys, numbered_restarted, true_false}
 use Rattle.recorder.specs.Laws.{AreApart}
-use Rattle.ctx_rows.specs.Contexts.{Context, context, AreDistinct}
+use Rattle.contexts.specs.Contexts.{Context, context, AreDistinct, Held}
 use Rattle.ctx_rows.specs.Telling.{CanCount}
 use Rattle.ctx_rows.specs.States.{CtxState, Track, after_part, after_ready, after_seen, contexts_after, knows}
 use Rattle.ctx_rows.specs.States.{contexts_with, track_after_cut, track_after_event, track}
 use Rattle.ctx_rows.specs.States.{with_started, with_track}
-use Rattle.ctx_costs.specs.inner.Keys.{Held}
 use Rattle.ctx_costs.specs.inner.Tracks.{Book, IsFramed, IsKept, IsPlaceOf, IsReadyFor, IsRoomy, IsSound, IsWatching}
 use Rattle.ctx_costs.specs.inner.Tracks.{SameThread, frames_of, numbers_of, track_of}
 use Rattle.ctx_costs.proofs.NumberedLemmas.{open_many}

@@ -25,7 +25,7 @@ use Rattle.recorder.specs.inner.TellerLaws.{rows_of_tellings-append}
 use Rattle.ctx_costs.proofs.Others.{IsPushed, pushes_what, AreKeyed-take, arc_alike, place_alike, numbered_kept}
 use Rattle.ctx_costs.proofs.Others.{numbered_more, numbered_top, with_context_more, within_list, number_is}
 use Rattle.ctx_costs.proofs.Others.{true_of_or}
-use Rattle.ctx_rows.specs.Contexts.{Context, context, number, with_context}
+use Rattle.contexts.specs.Contexts.{Context, context, number, with_context}
 use Rattle.ctx_rows.specs.States.{Track, contexts_after, contexts_with, dropped_track_frames, kept_track_frames, pushed_track_frame, pushed_frame, track_after_event}
 use Rattle.ctx_rows.specs.States.{top_number}
 use Rattle.ctx_costs.specs.inner.Tracks.{IsSound, IsSummed}

@@ -21,7 +21,7 @@ use Rattle.arc_costs.specs.Rows.{ArcRow}
 use Rattle.recorder.specs.Notes.{rows_of_tellings}
 use Rattle.recorder.specs.inner.Books.{AreKeyed}
 use Rattle.recorder.specs.inner.Tellers.{CanTell, RowsAfterTellings}
-use Rattle.ctx_rows.specs.Contexts.{Context, context, number}
+use Rattle.contexts.specs.Contexts.{Context, context, number}
 use Rattle.ctx_rows.specs.Telling.{CanCount}
 use Rattle.ctx_rows.specs.States.{Track, contexts_after, dropped_track_frames, entered_frame, kept_track_frames, pushed_frame}
 use Rattle.ctx_rows.specs.States.{pushed_track_frame, track_after_event}

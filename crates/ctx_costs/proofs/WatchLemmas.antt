@@ -9,10 +9,11 @@ use Rattle.std.proofs.lemmas.Bool.{eq-eqb}
 use Rattle.std.proofs.lemmas.Bool.Decides.{nat_tests}
 use Rattle.event_costs.specs.declared.numbers.ThreadNo.{ThreadNo}
 use Rattle.recorder.specs.Laws.{AreApart, IsIn}
-use Rattle.ctx_rows.specs.Contexts.{Context, with_context}
+use Rattle.contexts.specs.Contexts.{Context, with_context}
 use Rattle.ctx_rows.specs.States.{Track, track_in, with_track}
 use Rattle.ctx_costs.specs.inner.Tracks.{Book, IsKept, IsPlaceOf, IsSound, track_of}
 use Rattle.ctx_costs.proofs.Others.{numbered_more, with_context_more}
+use Rattle.contexts.proofs.SearchLemmas.{none_any, past_all}
 
 -- a track is found where its thread's only one stands
 pub track_at : (books : List Book) (thread : ThreadNo) (place : ℕ) (d : Book)
@@ -104,29 +105,6 @@ pub kept_more : (callers : ℕ) (cs : List Context) (c : Context) (b : Book) →
     → IsKept callers (with_context cs c) b
 kept_more callers cs c b kept =
     record { framed = kept.framed; sound = sound_more callers cs c (track_of b) kept.sound }
-
--- where a search ends
-pub none_any : {X : Type 0} (p : X → Bool) (xs : List X) → length xs ≤ position_or_len p xs → list_any p xs ≡ false
-none_any p [] past = refl
-none_any p (x ∷ xs) past = by (p x) refl (λ h. none_any p xs h)
-  where
-    by : (b : Bool) → p x ≡ b → (length xs ≤ position_or_len p xs → list_any p xs ≡ false) → list_any p (x ∷ xs) ≡ false
-    by true is rest =
-        let here = ap (λ b. if not b then 1 + position_or_len p xs else 0) is in absurd (omega (arith, past, here))
-    by false is rest =
-        let here = ap (λ b. if not b then 1 + position_or_len p xs else 0) is in
-        ap (λ b. b || list_any p xs) is ∙ rest (omega (arith, past, here))
-
-pub past_all : {X : Type 0} (p : X → Bool) (xs : List X) → position p xs ≡ None → length xs ≤ position_or_len p xs
-past_all p xs none = by (nat_lt (position_or_len p xs) (length xs)) refl
-  where
-    by : (b : Bool) → nat_lt (position_or_len p xs) (length xs) ≡ b → length xs ≤ position_or_len p xs
-    by false is = grind (arith, nat_tests)
-    by true is =
-        absurd (some_none (sym (ap (λ b. if b then Some (position_or_len p xs) else None) is) ∙ none))
-      where
-        some_none : ◌≡◌ {A = Option ℕ} (Some (position_or_len p xs)) None → ⊥
-        some_none e = cc
 
 pub place_found : (books : List Book) (thread : ThreadNo) (r : Option ℕ)
     → r ≡ position (λ (b : Book). thread.0 == b.thread.0) books → IsPlaceOf books thread r

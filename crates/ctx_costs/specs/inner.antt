@@ -1,5 +1,4 @@
 -- Words of private contracts. No public clause rests on them.
-pub mod Keys
 pub mod Frames
 pub mod Tellings
 pub mod Naming

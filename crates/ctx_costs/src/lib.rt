@@ -2,8 +2,6 @@
 #![tactic(auto)]
 
 mod closing;
-mod context;
-mod contexts;
 mod names;
 mod noting;
 mod sorting;

@@ -5,7 +5,8 @@ ghost use Rattle.ctx_rows.specs.Telling.{named_arc, named_line, named_rows};
 
 use arc_costs::{ArcRow, LineRow, TableRows};
 use byte_text::OutOfMemory;
-use ctx_rows::{ContextRef, CtxArc, CtxLine, CtxRows, context_at};
+use contexts::{ContextRef, context_at};
+use ctx_rows::{CtxArc, CtxLine, CtxRows};
 use event_costs::{ContextNo, ThreadNo};
 use std::alloc::Global;
 

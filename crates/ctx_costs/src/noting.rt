@@ -5,15 +5,15 @@ ghost use Rattle.sym_map.specs.SymbolMap.{place_of};
 ghost use Rattle.shadow_stack.specs.Changes.{change, no_change};
 ghost use Rattle.shadow_stack.specs.Frames.{stack};
 ghost use Rattle.arc_costs.specs.Lines.{has_line};
-ghost use Rattle.ctx_rows.specs.Contexts.{Context};
+ghost use Rattle.contexts.specs.Contexts.{Context};
 ghost use Rattle.ctx_rows.specs.Telling.{CanCount};
 ghost use Rattle.ctx_rows.specs.States.{contexts_after, track_after_event};
 ghost use Rattle.ctx_costs.specs.inner.Frames.{first_number};
 ghost use Rattle.ctx_costs.specs.inner.Tracks.{IsKept, IsRoomy, numbers_of, track_of};
 
-use crate::contexts::Contexts;
 use crate::track::Track;
 use arc_costs::NearRows;
+use contexts::Contexts;
 use event_costs::{Cost, Event, Ones};
 use sym_map::SymMap;
 

@@ -7,7 +7,7 @@ ghost use Rattle.ctx_rows.specs.Sums.{arc_order, place_order};
 ghost use Rattle.ctx_rows.specs.Telling.{named_arc, named_line, named_rows};
 
 use arc_costs::{ArcRow, LineRow, TableRows};
-use ctx_rows::{ContextRef, context_at};
+use contexts::{ContextRef, context_at};
 use event_costs::ContextNo;
 use std::cmp::Ordering;
 

@@ -21,9 +21,9 @@ ghost use Rattle.ctx_costs.specs.inner.Tracks.{CanEnter, IsChanged, IsEntered, I
 ghost use Rattle.ctx_costs.specs.inner.Tracks.{frames_of, numbers_of, track_of};
 
 use crate::closing::{Closing, Entry, Opening, Unheard};
-use crate::contexts::Contexts;
 use arc_costs::{TableRows, Tables};
 use byte_text::OutOfMemory;
+use contexts::Contexts;
 use event_costs::{ArcKey, ContextNo, Cost, Event, FuncId, Place, ThreadNo};
 use recorder::EventCost;
 use shadow_stack::{ShadowStack, goes_on};

@@ -8,8 +8,6 @@ ghost use Rattle.ctx_rows.specs.Watching.{IsFresh, by_context};
 ghost use Rattle.ctx_costs.specs.inner.Tracks.{Book, HasBegun, IsPlaceOf};
 ghost use Rattle.ctx_costs.specs.inner.WatchLaw.{context_watch_keeps_room, context_watch_lasts};
 
-use crate::context::Context;
-use crate::contexts::Contexts;
 use crate::names::named_rows;
 use crate::noting::{is_plain, note, note_plain};
 use crate::sorting::in_order;
@@ -17,7 +15,8 @@ use crate::track::Track;
 use arc_costs::{NearRows, TableRows};
 use byte_text::{OutOfMemory, Text};
 use cg_format::PartHead;
-use ctx_rows::{ContextRef, CtxRows, write_by_number};
+use contexts::{Context, ContextRef, Contexts};
+use ctx_rows::{CtxRows, write_by_number};
 use event_costs::{ContextNo, Cost, Event, FuncId, Ones, ThreadNo, ones_of};
 use part_dump::Watch;
 use std::alloc::Global;

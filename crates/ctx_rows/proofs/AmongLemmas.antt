@@ -5,7 +5,7 @@ use Rattle.std.proofs.Common.{refl, arith}
 use Rattle.recorder.specs.Laws.{IsIn}
 use Rattle.ctx_rows.proofs.Others.{in_left, in_right, in_flat}
 use Rattle.arc_costs.proofs.RiseLemmas.{in-map}
-use Rattle.ctx_rows.specs.Contexts.{Context}
+use Rattle.contexts.specs.Contexts.{Context}
 use Rattle.ctx_rows.specs.Rows.{CtxListed}
 use Rattle.ctx_rows.specs.Texts.{all_contexts, contexts_in}
 use Rattle.ctx_rows.specs.declared.rows.CtxArc.{CtxArc}

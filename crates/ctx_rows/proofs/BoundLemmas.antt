@@ -27,7 +27,7 @@ use Rattle.recorder.specs.Notes.{open_sum, rows_of_tellings}
 use Rattle.recorder.specs.Sums.{entered_by, is_arc}
 use Rattle.recorder.specs.inner.TellerLaws.{telling_calls-append, telling_costs-append}
 use Rattle.recorder.proofs.SumLemmas.{closings_calls, open_sum-cons, open_sum-split, open_sum-with, pushing_calls, pushing_costs}
-use Rattle.ctx_rows.specs.Contexts.{Context}
+use Rattle.contexts.specs.Contexts.{Context}
 use Rattle.ctx_rows.specs.Telling.{CanCount}
 use Rattle.ctx_rows.specs.States.{Track, first_track, dropped_track_frames, kept_track_frames, pushed_track_frame, track_after_event, top_number}
 use Rattle.ctx_rows.specs.Tracks.{account_of}

@@ -14,7 +14,7 @@ use Rattle.recorder.specs.Notes.{rows_of_tellings}
 use Rattle.arc_costs.specs.Keys.{by_kind, risen}
 use Rattle.arc_costs.proofs.RiseLemmas as rise
 use Rattle.recorder.proofs.RowLemmas as row
-use Rattle.ctx_rows.specs.Contexts.{Context}
+use Rattle.contexts.specs.Contexts.{Context}
 use Rattle.ctx_rows.specs.Rows.{arc_of, arc_sum, arc_with, arcs_at, call_sum, ctx_rows_of}
 use Rattle.ctx_rows.specs.Rows.{is_some_arc, is_some_line, line_sum}
 use Rattle.ctx_rows.specs.Rows.{line_with, place_of}

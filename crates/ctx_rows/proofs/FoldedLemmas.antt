@@ -25,7 +25,7 @@ use Rattle.ctx_rows.proofs.OrderLemmas as ties
 use Rattle.ctx_rows.proofs.ShareLemmas as share
 use Rattle.ctx_rows.proofs.ShareLemmas.{HaveSums, Keys, Naming, by_place, from_of, froms_on, passing, sums_map}
 use Rattle.ctx_rows.proofs.StackLemmas.{entered_after}
-use Rattle.ctx_rows.specs.Contexts.{context}
+use Rattle.contexts.specs.Contexts.{context}
 use Rattle.ctx_rows.specs.Folding.{AreSumsOf, function_of, plain as plain_rows, plain_arc, plain_line}
 use Rattle.ctx_rows.specs.Rows.{arc_of, arc_with, arcs_at, ctx_rows_of, is_some_arc, is_some_line, line_with, place_of}
 use Rattle.ctx_rows.specs.Since.{AreEntered, StandsOn}

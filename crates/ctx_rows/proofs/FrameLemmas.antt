@@ -14,7 +14,7 @@ use Rattle.shadow_stack.specs.Frames.{StartWithin, frame_of, with_frame}
 use Rattle.shadow_stack.specs.Stacks.{Activation, Stack}
 use Rattle.shadow_stack.specs.declared.frame.Frame.{Frame}
 use Rattle.ctx_rows.proofs.Others.{change-end, drop-end, covers_itself}
-use Rattle.ctx_rows.specs.Contexts.{Context, context, has_context, with_context}
+use Rattle.contexts.specs.Contexts.{Context, context, has_context, with_context}
 use Rattle.ctx_rows.specs.States.{Track, kept_track_frames, top_number}
 use Rattle.ctx_rows.specs.Tracks.{AreNumbered}
 

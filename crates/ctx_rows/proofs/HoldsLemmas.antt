@@ -23,7 +23,7 @@ use Rattle.part_dump.specs.Steps.{Step, event_of, frames_in, steps_of_thread, ev
 use Rattle.part_dump.specs.Watched.{Fits, Follows, IsOrderly, last_of, ready_pc, ready_pc_after, ready_pc_by}
 use Rattle.part_dump.specs.Watched.{steps_in, steps_of}
 use Rattle.part_dump.specs.Watching.{after_call}
-use Rattle.ctx_rows.specs.Contexts.{Context, context, number, with_context}
+use Rattle.contexts.specs.Contexts.{Context, context, number, with_context}
 use Rattle.ctx_rows.specs.Telling.{CanCount, CanSee}
 use Rattle.ctx_rows.specs.Since.{AreEntered, StandsOn, since, since_after, since_by}
 use Rattle.ctx_rows.specs.States.{CtxState, Track, after_ready, first_track, contexts_after, contexts_with, track_after_cut, is_track_of}

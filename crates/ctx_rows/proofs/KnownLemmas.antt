@@ -10,7 +10,7 @@ use Rattle.recorder.specs.Laws.{IsIn}
 use Rattle.cg_format.specs.Part as part
 use Rattle.ctx_rows.proofs.Others.{from_append, from_flat, from_map}
 use Rattle.arc_costs.proofs.RiseLemmas as rise
-use Rattle.ctx_rows.specs.Contexts.{Context, context_order, number}
+use Rattle.contexts.specs.Contexts.{Context, context_order, number}
 use Rattle.ctx_rows.specs.Known.{AreKnown, IsKnownArc, IsKnownContext, IsKnownLine}
 use Rattle.ctx_rows.specs.Rows.{CtxListed}
 use Rattle.ctx_rows.specs.Texts.{all_contexts, as_function, context_map, contexts_in, numbered, numbered_arc}

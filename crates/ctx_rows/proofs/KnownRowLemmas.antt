@@ -17,7 +17,7 @@ use Rattle.arc_costs.specs.Keys.{risen}
 use Rattle.recorder.specs.inner.Known.{KnowsPlaces}
 use Rattle.recorder.proofs.KnownLemmas as plain
 use Rattle.arc_costs.proofs.RiseLemmas as rise
-use Rattle.ctx_rows.specs.Contexts.{context}
+use Rattle.contexts.specs.Contexts.{context}
 use Rattle.ctx_rows.specs.Known.{AreKnown, IsKnownArc, IsKnownContext, IsKnownLine}
 use Rattle.ctx_rows.specs.Rows.{arc_with, arcs_at, ctx_rows_of, is_some_arc, is_some_line, line_with}
 use Rattle.ctx_rows.specs.Sums.{CtxArcKey, CtxPlace, arc_calls, arc_cost, arc_order, counts_at, ctx_arc, ctx_arc_of}

@@ -4,7 +4,6 @@ pub mod RankLemmas
 pub mod AmongLemmas
 pub mod MapLemmas
 pub mod FoldLemmas
-pub mod NumberLemmas
 pub mod OrderLemmas
 pub mod RisingLemmas
 pub mod NamedLemmas

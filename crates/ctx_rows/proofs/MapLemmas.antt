@@ -9,7 +9,7 @@ use Rattle.std.proofs.lemmas.Option.{slice_get-get_or, slice_get-map}
 use Rattle.event_costs.specs.declared.numbers.FuncId.{FuncId}
 use Rattle.sym_map.specs.SymbolMap.{IsFunc, SymbolMap, entry_line_of, entry_of, home_of, identity_in}
 use Rattle.sym_map.specs.SymbolMap.{identity_of, place_of}
-use Rattle.ctx_rows.specs.Contexts.{Context}
+use Rattle.contexts.specs.Contexts.{Context}
 use Rattle.ctx_rows.specs.Folding.{function_of}
 use Rattle.ctx_rows.specs.Texts.{FunctionIn, as_function, context_map, context_name}
 use Rattle.ctx_rows.specs.inner.Named.{AreNamed}

@@ -9,9 +9,9 @@ use Rattle.event_costs.specs.Keys.{ArcKey}
 use Rattle.event_costs.specs.declared.numbers.FuncId.{FuncId}
 use Rattle.shadow_stack.specs.declared.frame.Frame.{Frame}
 use Rattle.arc_costs.specs.Rows.{ArcRow, LineRow}
-use Rattle.ctx_rows.specs.Contexts.{Context, context_at, has_context, number, with_context}
+use Rattle.contexts.specs.Contexts.{Context, context_at, has_context, number, with_context}
 use Rattle.ctx_rows.specs.Sums.{CtxArcKey}
-use Rattle.ctx_rows.proofs.NumberLemmas.{number_is}
+use Rattle.contexts.proofs.NumberLemmas.{number_is}
 use Rattle.ctx_rows.specs.Telling.{named_arc, named_line}
 use Rattle.ctx_rows.specs.Tracks.{IsArcOf, IsNumber}
 use Rattle.ctx_rows.proofs.FrameLemmas.{read_there, with_context_more}

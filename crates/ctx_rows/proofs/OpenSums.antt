@@ -19,7 +19,7 @@ use Rattle.arc_costs.specs.Arcs.{call_of_arc, cost_of_arc}
 use Rattle.arc_costs.specs.Rows.{ArcRow}
 use Rattle.recorder.specs.Notes.{rows_of_tellings}
 use Rattle.recorder.specs.inner.TellerLaws.{rows_of_tellings-append}
-use Rattle.ctx_rows.specs.Contexts.{Context}
+use Rattle.contexts.specs.Contexts.{Context}
 use Rattle.ctx_rows.specs.Rows.{arc_of, arc_sum, call_sum}
 use Rattle.ctx_rows.specs.Sums.{CtxArcKey, ctx_arcs, entered_by, is_arc, same_arc}
 use Rattle.ctx_rows.specs.declared.rows.CtxArc.{CtxArc}

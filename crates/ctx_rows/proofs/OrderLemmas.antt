@@ -7,9 +7,9 @@ use Rattle.std.specs.Ordering.{nat_cmp}
 use Rattle.std.proofs.lemmas.Bool.{eq-eqb, and_parts}
 use Rattle.std.proofs.lemmas.Cmp.{nat_cmp_total, on_total, then_total}
 use Rattle.ctx_rows.proofs.Others.{same_number, then_equal}
-use Rattle.ctx_rows.specs.Contexts.{Context, context_order, same_context}
+use Rattle.contexts.specs.Contexts.{Context, context_order, same_context}
 use Rattle.ctx_rows.specs.Sums.{CtxArcKey, CtxPlace, arc_order, place_order, same_arc, same_place}
-use Rattle.ctx_rows.proofs.NumberLemmas.{context_alike, context_itself}
+use Rattle.contexts.proofs.NumberLemmas.{context_alike, context_itself}
 
 pub context_only : IsAntisymmetric context_order
 context_only a b e = slice_cmp-IsAntisymmetric nat_cmp-IsAntisymmetric a b e

@@ -8,10 +8,10 @@ use Rattle.std.specs.declared.cmp.Ordering.TheVariants.{Less, Equal}
 use Rattle.recorder.specs.Laws.{IsIn}
 use Rattle.arc_costs.specs.Keys.{risen}
 use Rattle.arc_costs.proofs.RiseLemmas as rise
-use Rattle.ctx_rows.specs.Contexts.{Context, context_order, same_context}
-use Rattle.ctx_rows.specs.Contexts.{number}
+use Rattle.contexts.specs.Contexts.{Context, context_order, same_context}
+use Rattle.contexts.specs.Contexts.{number}
 use Rattle.ctx_rows.proofs.NamedLemmas.{contains_from_in, in_from_contains}
-use Rattle.ctx_rows.proofs.NumberLemmas.{context_alike, context_itself, place, place-cons}
+use Rattle.contexts.proofs.NumberLemmas.{context_alike, context_itself, place, place-cons}
 use Rattle.ctx_rows.proofs.OrderLemmas.{context_only}
 
 abbrev Rises : List Context → Type 0

@@ -30,13 +30,13 @@ use Rattle.arc_costs.specs.Rows.{ArcRow, LineRow}
 use Rattle.recorder.specs.Notes.{row_of_telling, rows_of_tellings}
 use Rattle.recorder.specs.inner.TellerLaws.{rows_of_tellings-append}
 use Rattle.recorder.proofs.StandingLemmas.{one_more_sum}
-use Rattle.ctx_rows.specs.Contexts.{Context, context, context_at, number, with_context}
+use Rattle.contexts.specs.Contexts.{Context, context, context_at, number, with_context}
 use Rattle.ctx_rows.specs.Rows.{arc_of, arc_sum, call_sum, line_sum, place_of as ctx_place_of}
 use Rattle.ctx_rows.specs.Sums.{CtxArcKey, CtxPlace, arc_calls, arc_cost, counts_at, ctx_arc, ctx_arc_of, ctx_arcs}
 use Rattle.ctx_rows.specs.Sums.{entered_by, is_arc, pushed_arc, same_arc, same_place, self_cost}
 use Rattle.ctx_rows.specs.declared.rows.CtxArc.{CtxArc}
 use Rattle.ctx_rows.specs.declared.rows.CtxLine.{CtxLine}
-use Rattle.ctx_rows.proofs.NumberLemmas.{number_is}
+use Rattle.contexts.proofs.NumberLemmas.{number_is}
 use Rattle.ctx_rows.specs.Telling.{named_arc, named_line}
 use Rattle.ctx_rows.specs.States.{Track, first_track, contexts_after, contexts_with, track_after_cut, dropped_track_frames}
 use Rattle.ctx_rows.specs.States.{kept_track_frames, pushed_track_frame, pushed_frame, track_after_event, top_number}

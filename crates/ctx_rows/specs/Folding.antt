@@ -1,21 +1,16 @@
 -- Rows by context folded back: a context's function is its first one.
-use Rattle.std.specs.Prelude.{◌≡◌, ◌<◌, All, filter, length, map, slice_index}
+use Rattle.std.specs.Prelude.{◌≡◌, ◌<◌, All, filter, length, map}
 use Rattle.std.specs.List.Sorted.{IsStrictlySortedBy}
 use Rattle.event_costs.specs.Costs.{IsWhole}
-use Rattle.event_costs.specs.declared.numbers.FuncId.{FuncId}
 use Rattle.arc_costs.specs.Arcs.{ArcsStandFor, arc_of, is_some_arc}
 use Rattle.arc_costs.specs.Contents.{Listed}
 use Rattle.arc_costs.specs.Lines.{LinesStandFor, is_some_line, place_of}
 use Rattle.event_costs.specs.Order.{arc_order, place_order}
 use Rattle.arc_costs.specs.Rows.{ArcRow, LineRow}
-use Rattle.ctx_rows.specs.Contexts.{Context}
+pub use Rattle.contexts.specs.Contexts.{function_of}
 use Rattle.ctx_rows.specs.Rows.{CtxListed}
 use Rattle.ctx_rows.specs.declared.rows.CtxArc.{CtxArc}
 use Rattle.ctx_rows.specs.declared.rows.CtxLine.{CtxLine}
-
--- the function whose context it is
-abbrev pub function_of : Context → FuncId
-function_of c = record { 0 = slice_index c 0 }
 
 -- a row with functions in place of contexts
 abbrev pub plain_line : CtxLine → LineRow

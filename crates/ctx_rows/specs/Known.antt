@@ -1,7 +1,7 @@
 -- Rows whose functions and files are those of a map.
 use Rattle.std.specs.Prelude.{◌<◌, All, length}
 use Rattle.sym_map.specs.SymbolMap.{IsFile, SymbolMap}
-use Rattle.ctx_rows.specs.Contexts.{Context}
+use Rattle.contexts.specs.Contexts.{Context}
 use Rattle.ctx_rows.specs.Rows.{CtxListed}
 use Rattle.ctx_rows.specs.declared.rows.CtxArc.{CtxArc}
 use Rattle.ctx_rows.specs.declared.rows.CtxLine.{CtxLine}

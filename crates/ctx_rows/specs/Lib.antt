@@ -1,4 +1,3 @@
-pub mod Contexts
 pub mod Sums
 pub mod Rows
 pub mod Known

@@ -18,7 +18,7 @@ use Rattle.arc_costs.specs.Arcs.{add_arcs, cleared_arcs}
 use Rattle.arc_costs.specs.Lines.{add_line, cleared_lines, line}
 use Rattle.arc_costs.specs.Rows.{ArcRow, LineRow}
 use Rattle.recorder.specs.Notes.{rows_of_tellings}
-use Rattle.ctx_rows.specs.Contexts.{Context, context, number, with_context}
+use Rattle.contexts.specs.Contexts.{Context, context, number, with_context}
 
 -- A thread: its stack, and its account by the numbers of contexts. A frame stands for the context of the frame at its
 -- place in the stack, and its arc leads between two contexts; lines and arcs are rows since the last cut, in which

@@ -11,7 +11,7 @@ use Rattle.sym_map.specs.SymbolMap.{SymbolMap, place_of}
 use Rattle.shadow_stack.specs.Changes.{Change, change}
 use Rattle.shadow_stack.specs.Stacks.{Activation, Stack}
 use Rattle.shadow_stack.specs.Traces.{EventOnStack}
-use Rattle.ctx_rows.specs.Contexts.{Context, context, context_order, same_context}
+use Rattle.contexts.specs.Contexts.{Context, context, context_order, same_context}
 
 -- a line in a context
 pub record CtxPlace : Type 0 where

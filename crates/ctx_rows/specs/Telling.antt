@@ -12,7 +12,7 @@ use Rattle.arc_costs.specs.Contents.{Listed}
 use Rattle.arc_costs.specs.Lines.{line_sum}
 use Rattle.arc_costs.specs.Rows.{ArcRow, LineRow}
 use Rattle.recorder.specs.Notes.{open_sum, rows_of_tellings}
-use Rattle.ctx_rows.specs.Contexts.{Context, context_at}
+use Rattle.contexts.specs.Contexts.{Context, context_at}
 use Rattle.ctx_rows.specs.Known.{AreKnown}
 use Rattle.ctx_rows.specs.Rows.{CtxListed, summed_rows}
 use Rattle.ctx_rows.specs.States.{CtxState, Track, knows, track}

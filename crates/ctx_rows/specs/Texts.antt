@@ -6,10 +6,10 @@ use Rattle.arc_costs.specs.Rows.{ArcRow, LineRow}
 use Rattle.cg_format.specs.Part.{part_text}
 use Rattle.cg_format.specs.declared.head.PartHead.{PartHead}
 use Rattle.arc_costs.specs.Keys.{risen}
-use Rattle.ctx_rows.specs.Contexts.{Context, context_order}
+use Rattle.contexts.specs.Contexts.{Context, context_order}
 use Rattle.ctx_rows.specs.Folding.{function_of}
 use Rattle.ctx_rows.specs.Rows.{CtxListed}
-use Rattle.ctx_rows.specs.Contexts.{number}
+use Rattle.contexts.specs.Contexts.{number}
 use Rattle.ctx_rows.specs.declared.rows.CtxArc.{CtxArc}
 use Rattle.ctx_rows.specs.declared.rows.CtxLine.{CtxLine}
 

@@ -5,7 +5,7 @@ use Rattle.event_costs.specs.declared.numbers.FuncId.{FuncId}
 use Rattle.shadow_stack.specs.Stacks.{Stack}
 use Rattle.shadow_stack.specs.declared.frame.Frame.{Frame}
 use Rattle.recorder.specs.Accounts.{Account}
-use Rattle.ctx_rows.specs.Contexts.{Context, context}
+use Rattle.contexts.specs.Contexts.{Context, context}
 use Rattle.ctx_rows.specs.States.{Track}
 
 -- what it has counted, as an account by the numbers of contexts

@@ -1,3 +1,2 @@
 -- Words of private contracts. No public clause rests on them.
 pub mod Named
-pub mod Ties

@@ -2,18 +2,15 @@
 //! keeps that counts so, as plain data, and what holds of it after every run.
 #![tactic(auto)]
 
-mod context_ref;
 mod folding;
-mod func_list;
 mod laws;
 mod numbering;
 mod ranking;
 mod rows;
 mod writing;
 
-pub use context_ref::{ContextRef, context_at};
+pub use contexts::{ContextRef, FuncList, context_at};
 pub use folding::{fold, plain_rows, summed_rows};
-pub use func_list::FuncList;
 pub use laws::{
     a_call_that_goes_on_may_be_made, events_stand_on_their_stacks,
     parts_have_the_rows_of_their_events, rows_are_those_of_the_events,

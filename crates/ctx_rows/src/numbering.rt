@@ -1,14 +1,13 @@
 //! The contexts of rows, numbered as they come.
 
 ghost use Rattle.std.specs.Prelude.{◌≡◌, ◌∷◌, ◌++◌, [], IfOk, List, OnOk, map};
-ghost use Rattle.ctx_rows.specs.Contexts.{Context, context_at};
+ghost use Rattle.contexts.specs.Contexts.{Context, context_at};
 ghost use Rattle.ctx_rows.specs.Telling.{named_rows};
 
-use crate::context_ref::ContextRef;
-use crate::func_list::FuncList;
 use crate::rows::CtxRows;
 use arc_costs::{ArcRow, LineRow, TableRows};
 use byte_text::OutOfMemory;
+use contexts::{ContextRef, FuncList};
 use event_costs::{ArcKey, ContextNo, Place};
 use std::alloc::Global;
 

@@ -3,13 +3,13 @@
 ghost use Rattle.std.specs.Prelude.{◌≡◌, IfOk, OnOk, map};
 ghost use Rattle.std.specs.List.Sorted.{IsStrictlySortedBy};
 ghost use Rattle.arc_costs.specs.Keys.{risen};
-ghost use Rattle.ctx_rows.specs.Contexts.{context_at, context_order, number};
+ghost use Rattle.contexts.specs.Contexts.{context_at, context_order, number};
 ghost use Rattle.ctx_rows.specs.Telling.{named_arc, named_line, named_rows};
 ghost use Rattle.ctx_rows.specs.Texts.{all_contexts, contexts_in, numbered, numbered_arc, numbered_line};
 
-use crate::context_ref::{ContextRef, context_at};
 use arc_costs::{ArcRow, LineRow, TableRows};
 use byte_text::OutOfMemory;
+use contexts::{ContextRef, context_at};
 use event_costs::{ArcKey, ContextNo, Place};
 use name_numbers::distinct;
 use std::alloc::Global;

@@ -1,6 +1,6 @@
 //! The rows of a profile's part by context.
 
-use crate::func_list::FuncList;
+use contexts::FuncList;
 use event_costs::{Cost, FileId, ThreadNo};
 use std::marker::Model;
 

@@ -5,13 +5,13 @@ ghost use Rattle.ctx_rows.specs.Known.{AreKnown, IsKnownContext};
 ghost use Rattle.ctx_rows.specs.Telling.{named_rows};
 ghost use Rattle.ctx_rows.specs.Texts.{context_name, ctx_text};
 
-use crate::context_ref::ContextRef;
 use crate::numbering::{by_number, contexts_of};
 use crate::ranking::rank;
 use crate::rows::CtxRows;
 use arc_costs::TableRows;
 use byte_text::{OutOfMemory, Text};
 use cg_format::{Naming, PartHead, write_named};
+use contexts::ContextRef;
 use event_costs::{ContextNo, FileId, FuncId};
 use std::alloc::Global;
 use std::marker::Model;

@@ -22,7 +22,7 @@ use Rattle.cycles.specs.Costs.{IsGroupsOf, IsInclusive, self_cost}
 use Rattle.part_dump.specs.Steps.{IsPiece, Step, events_on_stack_of, threads}
 use Rattle.profile_run.specs.Program.{Program, head_of_run, CanRun}
 use Rattle.profile_run.specs.Trace.{Makes, RunStep, steps_of}
-use Rattle.ctx_rows.specs.Contexts.{Context, context}
+use Rattle.contexts.specs.Contexts.{Context, context}
 use Rattle.ctx_rows.specs.Rows.{ctx_rows_of}
 use Rattle.ctx_rows.specs.Sums.{CtxArcKey, ctx_arc, ctx_arcs}
 use Rattle.ctx_rows.specs.declared.rows.CtxArc.{CtxArc}

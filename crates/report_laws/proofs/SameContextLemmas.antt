@@ -17,7 +17,7 @@ use Rattle.part_dump.specs.Calls.{head_of}
 use Rattle.part_dump.specs.Cuts.{Split, cuts}
 use Rattle.part_dump.specs.Files.{part_name}
 use Rattle.part_dump.specs.Steps.{IsPiece, Step, events_on_stack_of, threads}
-use Rattle.ctx_rows.specs.Contexts.{Context, context}
+use Rattle.contexts.specs.Contexts.{Context, context}
 use Rattle.ctx_rows.specs.Files.{closed_files, ctx_files, segment_files, thread_files}
 use Rattle.ctx_rows.specs.Folding.{function_of}
 use Rattle.ctx_rows.specs.Known.{AreKnown, IsKnownContext}

@@ -9,7 +9,7 @@ use Rattle.shadow_stack.specs.Traces.{EventOnStack}
 use Rattle.cg_read.specs.Profiles.{Contents, IsProfile, NamedCall, NamedSelf, named_call_rows, named_self_rows}
 use Rattle.cg_read.specs.Profiles.{same_function}
 use Rattle.cg_read.specs.declared.rows.FuncKey.{FuncKey}
-use Rattle.ctx_rows.specs.Contexts.{Context, context}
+use Rattle.contexts.specs.Contexts.{Context, context}
 use Rattle.ctx_rows.specs.Folding.{function_of}
 use Rattle.ctx_rows.specs.Rows.{ctx_rows_of}
 use Rattle.ctx_rows.specs.Texts.{context_name}

@@ -5,22 +5,22 @@
 
 mod any_order;
 mod chosen;
-mod contexts;
 mod exact;
 mod maps;
 mod own_parts_by_address;
 mod parts_by_address;
+mod parts_by_context;
 mod reports;
 mod runs_by_address;
 mod sums;
 
 pub use any_order::files_in_any_order_have_one_report;
 pub use chosen::inclusive_costs_of_some_parts_count_each_event_once;
-pub use contexts::inclusive_costs_by_context_count_each_event_once;
 pub use exact::a_run_reported_from_its_own_parts_is_exact;
 pub use maps::maps_that_tell_the_same_make_one_report;
 pub use own_parts_by_address::own_parts_by_address_stand_for_the_rows_of_the_run;
 pub use parts_by_address::parts_by_address_read_as_their_rows;
+pub use parts_by_context::inclusive_costs_by_context_count_each_event_once;
 pub use reports::{
     a_profile_has_one_report, a_run_has_one_report, reports_on_a_run_count_each_event_once,
 };

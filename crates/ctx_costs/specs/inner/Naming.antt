@@ -3,7 +3,7 @@ use Rattle.std.specs.Prelude.{List, map, IsPermutation}
 use Rattle.std.specs.Ordering.{is_lt}
 use Rattle.std.specs.List.Sorted.{IsSortedBy}
 use Rattle.arc_costs.specs.Contents.{Listed}
-use Rattle.ctx_rows.specs.Contexts.{Context}
+use Rattle.contexts.specs.Contexts.{Context}
 use Rattle.ctx_rows.specs.Telling.{named_arc, named_line}
 use Rattle.ctx_rows.specs.Rows.{CtxListed, arc_of, place_of}
 use Rattle.ctx_rows.specs.Sums.{arc_order, place_order}

@@ -21,13 +21,12 @@ use Rattle.recorder.specs.Notes.{open_sum, rows_of_tellings}
 use Rattle.recorder.specs.Laws.{AreApart}
 use Rattle.recorder.specs.inner.Books.{AreKeyed}
 use Rattle.recorder.specs.inner.Tellers.{RowsAfterTellings}
-use Rattle.ctx_rows.specs.Contexts.{Context, AreDistinct, context_at, number as number_of, with_context}
+use Rattle.contexts.specs.Contexts.{Context, AreDistinct, Held, context_at, number as number_of, with_context}
 use Rattle.ctx_rows.specs.Tracks.{AreNumbered, IsArcOf, IsNumber}
 use Rattle.ctx_rows.specs.States.{Track, contexts_after, first_track, dropped_track_frames, kept_track_frames}
 use Rattle.ctx_rows.specs.States.{pushed_track_frame, top_number}
 use Rattle.ctx_costs.specs.inner.Frames.{AreOpen, entry_arc, first_number, numbered_frames}
 use Rattle.ctx_costs.specs.declared.closing.Entry.{Entry}
-use Rattle.ctx_costs.specs.inner.Keys.{Held}
 pub use Rattle.ctx_costs.specs.declared.track.Track.{Track as Book}
 
 abbrev pub numbers_of : Book → List FuncId

@@ -1,7 +1,7 @@
 -- What holds of contexts that stand for functions: each is one of the map's, and has its name.
 use Rattle.std.specs.Prelude.{◌≡◌, ℕ, All, List, map}
 use Rattle.sym_map.specs.SymbolMap.{SymbolMap}
-use Rattle.ctx_rows.specs.Contexts.{Context}
+use Rattle.contexts.specs.Contexts.{Context}
 use Rattle.ctx_rows.specs.Known.{IsKnownContext}
 use Rattle.ctx_rows.specs.Texts.{context_name}
 

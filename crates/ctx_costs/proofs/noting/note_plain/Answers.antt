@@ -1,7 +1,7 @@
 use Rattle.std.proofs.Common.{◌≡◌, ℕ, List, true, ap, subst, sym}
 use Rattle.event_costs.specs.Keys.{Place}
 use Rattle.arc_costs.specs.Lines.{has_line}
-use Rattle.ctx_rows.specs.Contexts.{Context}
+use Rattle.contexts.specs.Contexts.{Context}
 use Rattle.ctx_rows.specs.States.{contexts_after}
 use Rattle.ctx_costs.specs.inner.Frames.{first_number}
 use Rattle.ctx_costs.specs.inner.Tracks.{IsKept, numbers_of}

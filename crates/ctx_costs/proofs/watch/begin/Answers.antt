@@ -1,5 +1,5 @@
 use Rattle.std.proofs.Common.{◌∷◌, ◌++◌, ◌∙◌, [], List, ap, if◌then◌else◌, is_ok}
-use Rattle.ctx_rows.specs.Contexts.{number, with_context}
+use Rattle.contexts.specs.Contexts.{number, with_context}
 use Rattle.ctx_costs.specs.inner.Tracks.{Book}
 use Rattle.ctx_rows.specs.States.{first_track}
 use Rattle.ctx_costs.proofs.watch.begin.Goals as goal
@@ -13,9 +13,9 @@ returns-clause-ok c = record {
       ∙ ap (λ (bs : List Book). bs ++ c.in_ok-track.track ∷ []) c.reserve.ensures.items;
   track = c.in_ok-track.ensures.track
       ∙ ap (first_track c.args.thread c.args.func)
-      (c.next_number-number.ensures ∙ ap (number c.args.contexts.now.contexts) c.of-context.ensures.listed);
+      (c.next_number-number.ensures ∙ ap (number c.args.contexts.now.contexts) c.of-context.ensures);
   framed = c.in_ok-track.ensures.framed;
   roomy = c.in_ok-track.ensures.room;
-  contexts = c.number_of.ensures.contexts ∙ ap (with_context c.args.contexts.now.contexts) c.of-context.ensures.listed;
+  contexts = c.number_of.ensures.contexts ∙ ap (with_context c.args.contexts.now.contexts) c.of-context.ensures;
   room = c.number_of.ensures.room;
 }

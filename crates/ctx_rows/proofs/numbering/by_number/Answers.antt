@@ -1,6 +1,6 @@
 use Rattle.std.proofs.Common.{◌∷◌, ◌∙◌, [], List, append_assoc, append-nil, ap, map, rules, sym}
 use Rattle.std.proofs.lemmas.List.{map-append, take_all, take_more}
-use Rattle.ctx_rows.specs.Contexts.{Context}
+use Rattle.contexts.specs.Contexts.{Context}
 use Rattle.ctx_rows.specs.Rows.{OfThread}
 use Rattle.ctx_rows.specs.Telling.{named_arc, named_line}
 use Rattle.ctx_rows.proofs.numbering.by_number.Goals as goal

@@ -1,8 +1,8 @@
 use Rattle.std.proofs.Common.{◌≡◌, get_or, ap, sym}
 use Rattle.std.specs.Cmp.Lexicographic.{nat_list_cmp_total}
 use Rattle.std.specs.Ordering.{is_eq}
-use Rattle.ctx_rows.specs.Contexts.{context_order}
-use Rattle.ctx_rows.specs.inner.Ties.{same_contexts}
+use Rattle.contexts.specs.Contexts.{context_order}
+use Rattle.contexts.specs.inner.Ties.{same_contexts}
 use Rattle.ctx_rows.proofs.NamedLemmas.{contains_from_in}
 use Rattle.ctx_rows.proofs.RankLemmas.{no_number, rising_number}
 use Rattle.ctx_rows.proofs.SearchLemmas.{no_gap}

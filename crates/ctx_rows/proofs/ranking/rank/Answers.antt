@@ -3,7 +3,7 @@ use Rattle.std.specs.List.Sorted.{IsStrictlySortedBy}
 use Rattle.std.proofs.lemmas.List.{length-map, with_items_is}
 use Rattle.arc_costs.specs.Contents.{Listed}
 use Rattle.arc_costs.specs.Keys.{risen}
-use Rattle.ctx_rows.specs.Contexts.{Context, context_order}
+use Rattle.contexts.specs.Contexts.{Context, context_order}
 use Rattle.ctx_rows.specs.Telling.{named_arc, named_line}
 use Rattle.ctx_rows.specs.Texts.{numbered_arc, numbered_line}
 use Rattle.ctx_rows.proofs.RankLemmas.{risen_sorted}

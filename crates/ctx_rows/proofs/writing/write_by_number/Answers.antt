@@ -2,7 +2,7 @@ use Rattle.std.proofs.Common.{◌≡◌, ◌∙◌, All, IfOk, List, ap, map, su
 use Rattle.sym_map.specs.SymbolMap.{SymbolMap}
 use Rattle.arc_costs.specs.Contents.{Listed}
 use Rattle.cg_format.specs.Part as part
-use Rattle.ctx_rows.specs.Contexts.{Context}
+use Rattle.contexts.specs.Contexts.{Context}
 use Rattle.ctx_rows.specs.Known.{AreKnown, IsKnownContext}
 use Rattle.ctx_rows.specs.Rows.{CtxListed}
 use Rattle.ctx_rows.specs.Telling.{named_rows}

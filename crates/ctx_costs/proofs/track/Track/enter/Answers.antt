@@ -5,9 +5,8 @@ use Rattle.event_costs.specs.Keys.{ArcKey}
 use Rattle.event_costs.specs.declared.numbers.FuncId.{FuncId}
 use Rattle.arc_costs.specs.Arcs.{has_arc}
 use Rattle.recorder.specs.inner.Tellers.{RowsAfterTellings}
-use Rattle.ctx_rows.specs.Contexts.{number, with_context}
+use Rattle.contexts.specs.Contexts.{number, with_context}
 use Rattle.ctx_costs.specs.inner.Frames.{entry_arc, first_number}
-use Rattle.ctx_costs.specs.inner.Keys.{listed}
 use Rattle.ctx_costs.specs.inner.Tracks.{context_entered, numbers_of}
 use Rattle.ctx_costs.proofs.ChangedLemmas.{entered_is}
 use Rattle.ctx_costs.proofs.Others.{at_most_one, row_told}
@@ -18,10 +17,9 @@ returns c =
     let b = c.args.self.now in
     let cs = c.args.contexts.now.contexts in
     let number_ = c.number_of-callee.result in
-    let entered : listed c.entering.result ≡ context_entered c.args.callers cs (first_number (numbers_of b)) c.args.entry
+    let entered : c.entering.result ≡ context_entered c.args.callers cs (first_number (numbers_of b)) c.args.entry
     = entered_is c.args.callers cs c.args.entry c.top-caller.result (first_number (numbers_of b))
-    (listed c.context-beneath.result) (listed c.entering.result) c.top-caller.ensures c.context-beneath.ensures.listed
-    c.entering.ensures.listed in
+    c.context-beneath.result c.entering.result c.top-caller.ensures c.context-beneath.ensures c.entering.ensures in
     let is : ArcKey = entry_arc c.args.entry c.top-caller.result number_ in
     let same : is ≡ entry_arc c.args.entry (first_number (numbers_of b)) number_
     = ap (λ (n : FuncId). entry_arc c.args.entry n number_) c.top-caller.ensures in

@@ -1,6 +1,6 @@
 use Rattle.std.proofs.Common.{◌≡◌, ◌∙◌, List, Some, ap, get_or, map, subst, sym}
 use Rattle.event_costs.specs.Keys.{Place}
-use Rattle.ctx_rows.specs.Contexts.{Context}
+use Rattle.contexts.specs.Contexts.{Context}
 use Rattle.ctx_rows.specs.States.{CtxState, after_ready}
 use Rattle.ctx_costs.specs.inner.Tracks.{Book, IsFramed, IsPlaceOf, IsRoomy, track_of}
 use Rattle.ctx_costs.proofs.ReadyLemmas.{begun_state, begun_watch, given_err, is_there, known_state, ready_watch}

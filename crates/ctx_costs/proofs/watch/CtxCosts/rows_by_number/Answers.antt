@@ -1,6 +1,6 @@
 use Rattle.std.proofs.Common.{◌≡◌, ◌∙◌, List, Some, ap, false, map, subst, sym, true}
 use Rattle.ctx_costs.proofs.Others.{any-map, true_false}
-use Rattle.ctx_rows.specs.Contexts.{Context}
+use Rattle.contexts.specs.Contexts.{Context}
 use Rattle.ctx_rows.specs.Telling.{named_rows, rows_in}
 use Rattle.ctx_rows.specs.States.{CtxState, is_track_of, knows}
 use Rattle.ctx_costs.specs.inner.Naming.{AreNamedRows}

@@ -1,0 +1,3 @@
+-- Words of private contracts. No public clause rests on them.
+pub mod Keys
+pub mod Ties
